@@ -1,0 +1,3 @@
+pub mod InfoBlock
+pub mod Signed
+pub mod Stored

@@ -1,0 +1,3 @@
+pub mod Fit
+pub mod Marks
+pub mod Judge

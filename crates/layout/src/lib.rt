@@ -1,0 +1,189 @@
+// The figures of an arena: which are allowed, which making works out, and where each part's words are.
+use format::numbers::LaneNo;
+use format::numbers::SectorNo;
+ghost use mathlib.Core.Path.{_≡_};
+ghost use mathlib.Core.Bool.{true};
+ghost use Prim.Native.Nat.{_+_, _*_, _≤_, _<_};
+ghost use Rattle.layout.specs.Figures.{lengthAllowed, sizesAllowed, startsAligned, partsInOrder, figuresAllowed, roundUp, madeLength, madeFigures};
+ghost use Rattle.layout.specs.Place.{layoutOf, inMap, inFlog, at};
+
+// The most lanes that an arena has.
+pub const MAX_LANES: u32 = 16;
+
+// The words between the starts of a lane's two halves.
+pub const HALF_DISTANCE: usize = 4;
+
+// The figures of an arena, as its info block has them; starts are in bytes.
+pub struct Figures {
+    // S: bytes of a sector.
+    pub size: u32,
+    // E: sectors.
+    pub sectors: u32,
+    // The internal size: bytes from one block to the next.
+    pub internal: u32,
+    // I: blocks.
+    pub blocks: u32,
+    // Lanes (nfree).
+    pub lanes: u32,
+    // Starts of data, map, flog and the info block's copy.
+    pub dataoff: u64,
+    pub mapoff: u64,
+    pub flogoff: u64,
+    pub copyoff: u64,
+}
+
+// Rule 1: whether a slice of that length can be an arena.
+pub fn length_allowed(length: usize) -> bool
+    ensures { λ r. ⌜ r ≡ lengthAllowed length ⌝ }
+{
+    if length % 4096 != 0 {
+        return false;
+    }
+    if length < 20480 {
+        return false;
+    }
+    length <= 16777216
+}
+
+// Whether a sector size, a number of sectors and a number of lanes are allowed.
+pub fn sizes_allowed(size: u32, sectors: u32, lanes: u32) -> bool
+    ensures { λ r. ⌜ r ≡ sizesAllowed size sectors lanes ⌝ }
+{
+    if size != 512 {
+        if size != 4096 {
+            return false;
+        }
+    }
+    if sectors < lanes {
+        return false;
+    }
+    if lanes < 1 {
+        return false;
+    }
+    lanes <= MAX_LANES
+}
+
+// Whether the four starts are multiples of 4,096.
+fn starts_aligned(f: Figures) -> bool
+    ensures { λ r. ⌜ r ≡ startsAligned f ⌝ }
+{
+    if f.dataoff % 4096 != 0 {
+        return false;
+    }
+    if f.mapoff % 4096 != 0 {
+        return false;
+    }
+    if f.flogoff % 4096 != 0 {
+        return false;
+    }
+    f.copyoff % 4096 == 0
+}
+
+// Whether each part ends at or before the next start, from the copy's start down, so that no sum can wrap.
+fn parts_in_order(f: Figures, length: usize) -> bool
+    requires { ⌜ length ≤ 16777216 ⌝ }
+    ensures { λ r. ⌜ r ≡ partsInOrder f length ⌝ }
+{
+    if 16777216 < f.copyoff {
+        return false;
+    }
+    if f.copyoff + 4096 != length as u64 {
+        return false;
+    }
+    if f.copyoff < f.flogoff {
+        return false;
+    }
+    if f.copyoff < f.flogoff + 64 * (f.lanes as u64) {
+        return false;
+    }
+    if f.flogoff < f.mapoff {
+        return false;
+    }
+    if f.flogoff < f.mapoff + 4 * (f.sectors as u64) {
+        return false;
+    }
+    if f.mapoff < f.dataoff {
+        return false;
+    }
+    if f.mapoff < f.dataoff + (f.blocks as u64) * (f.internal as u64) {
+        return false;
+    }
+    4096 <= f.dataoff
+}
+
+// Whether every figure is allowed in an arena of that length.
+pub fn figures_allowed(f: Figures, length: usize) -> bool
+    requires { ⌜ length ≤ 16777216 ⌝ }
+    ensures { λ r. ⌜ r ≡ figuresAllowed f length ⌝ }
+{
+    if !sizes_allowed(f.size, f.sectors, f.lanes) {
+        return false;
+    }
+    if f.internal != f.size {
+        return false;
+    }
+    if f.blocks as u64 != f.sectors as u64 + f.lanes as u64 {
+        return false;
+    }
+    if !starts_aligned(f) {
+        return false;
+    }
+    parts_in_order(f, length)
+}
+
+// The least multiple of 4,096 that is n or more.
+fn round_up(n: u64) -> u64
+    requires { ⌜ n < 1125899906842624 ⌝ }
+    ensures { λ r. ⌜ r ≡ roundUp n ⌝ }
+{
+    (n + 4095) / 4096 * 4096
+}
+
+// The length that making works out.
+pub fn made_length(size: u32, sectors: u32, lanes: u32) -> u64
+    requires { ⌜ sizesAllowed size sectors lanes ≡ true ⌝ }
+    ensures { λ r. ⌜ r ≡ madeLength size sectors lanes ⌝ }
+{
+    let blocks = sectors as u64 + lanes as u64;
+    let mapoff = round_up(4096 + blocks * (size as u64));
+    let flogoff = round_up(mapoff + 4 * (sectors as u64));
+    let copyoff = round_up(flogoff + 64 * (lanes as u64));
+    copyoff + 4096
+}
+
+// The figures that making works out, for a length that is allowed.
+pub fn made_figures(size: u32, sectors: u32, lanes: u32) -> Figures
+    requires { ⌜ (sizesAllowed size sectors lanes ≡ true) × (madeLength size sectors lanes ≤ 16777216) ⌝ }
+    ensures { λ r. ⌜ r ≡ madeFigures size sectors lanes ⌝ }
+{
+    let blocks = sectors + lanes;
+    let mapoff = round_up(4096 + (blocks as u64) * (size as u64));
+    let flogoff = round_up(mapoff + 4 * (sectors as u64));
+    let copyoff = round_up(flogoff + 64 * (lanes as u64));
+    Figures {
+        size: size,
+        sectors: sectors,
+        internal: size,
+        blocks: blocks,
+        lanes: lanes,
+        dataoff: 4096,
+        mapoff: mapoff,
+        flogoff: flogoff,
+        copyoff: copyoff,
+    }
+}
+
+// The word number of a sector's map word.
+pub fn map_place(f: Figures, sector: SectorNo) -> usize
+    ensures { λ r. ⌜ r ≡ at (layoutOf f) (inMap (sector .0)) ⌝ }
+{
+    (f.mapoff / 4) as usize + sector.0 as usize
+}
+
+// The word number of word k of a half of a lane's flog.
+pub fn flog_place(f: Figures, lane: LaneNo, half: u32, k: usize) -> usize
+    requires { ⌜ (half < 3) × (k < 4) ⌝ }
+    ensures { λ r. ⌜ r ≡ at (layoutOf f) (inFlog (lane .0) half k) ⌝ }
+{
+    (f.flogoff / 4) as usize + (16 * (lane.0 as usize) + (half as usize * HALF_DISTANCE + k))
+}

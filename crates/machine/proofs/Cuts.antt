@@ -1,0 +1,98 @@
+-- Cut openings leave no trace: of a valid arena each makes some of the mending stores or none, and of another none is accepted.
+use mathlib.Core.Path.{_≡_, refl, ap, _∙_}
+use mathlib.Core.List.{List, [], _∷_}
+use mathlib.Core.Bool.{Bool, true, false, cond}
+use Prim.Native.Nat.{ℕ, _≤_}
+use native.Mathlib.Omega.{arith}
+use native.Mathlib.Decide.{ℕ-discrete}
+use lib.Dec.{eqb}
+use lib.ListN.{length, take}
+use borrow.Author.Tests.{eqb-true}
+use Rattle.machine.specs.Stores.{Store, putAll}
+use Rattle.machine.specs.Opening.{layoutIn, mends, mended, openNumber, openOf, cutOpenOf}
+use Rattle.machine.specs.Valid.{Small}
+use Rattle.machine.specs.Claims.{Cut, afterCuts, CutsLeaveNoTrace}
+use Rattle.machine.proofs.Mends.{mends-take}
+use Rattle.machine.proofs.Opens.{Opens, open-zero, zero-open}
+use Rattle.machine.proofs.Kept.{kept-small, kept-opens, kept-number, kept-mended, kept-handle, kept-work}
+
+-- whether an arena opens, given room
+pub opens-or : (a : List ℕ) (P : Type 0) → (Opens a → P) → ((Opens a → ⊥) → P) → P
+opens-or a P f k = go (ℕ-discrete (openNumber a ((layoutIn a) .I)) 0)
+  where
+    go : Dec (openNumber a ((layoutIn a) .I) ≡ 0) → P
+    go (yes e) = f (open-zero a ((layoutIn a) .I) e .0)
+    go (no n) = k (λ o. n (zero-open a ((layoutIn a) .I) o (omega arith)))
+
+-- ---- one that does not
+
+cut-refused : (a : List ℕ) → (Opens a → ⊥) → (w : List ℕ) (k : ℕ) → (cutOpenOf a w k) .arena ≡ a
+unfolding cutOpenOf
+cut-refused a no-open w k = go (eqb (openNumber a (length w)) 0) _ (eqb-true _ _)
+  where
+    go : (t : Bool) (b : List ℕ) → (t ≡ true → openNumber a (length w) ≡ 0) → cond t b a ≡ a
+    go true b f = absurd (no-open (open-zero a (length w) (f refl) .0))
+    go false b f = refl
+
+cuts-refused : (cuts : List Cut) (a : List ℕ) → (Opens a → ⊥) → afterCuts cuts a ≡ a
+unfolding afterCuts
+cuts-refused [] a no-open = refl
+cuts-refused (c ∷ cs) a no-open = rw (cut-refused a no-open (c .work) (c .stores)) (cuts-refused cs a no-open)
+
+-- ---- one that does
+
+cut-is : (a : List ℕ) (w : List ℕ) (k : ℕ)
+    → (n : ℕ) × (n ≤ (layoutIn a) .N) × ((cutOpenOf a w k) .arena ≡ putAll (layoutIn a) (mends (layoutIn a) a n) a)
+unfolding cutOpenOf mends putAll
+cut-is a w k = go (eqb (openNumber a (length w)) 0)
+  where
+    go : (t : Bool) → (n : ℕ) × (n ≤ (layoutIn a) .N)
+        × (cond t (putAll (layoutIn a) (take k (mends (layoutIn a) a ((layoutIn a) .N))) a) a ≡ putAll (layoutIn a) (mends (layoutIn a) a n) a)
+    go true = let r = mends-take (layoutIn a) a ((layoutIn a) .N) k in (r .0, r .1, ap (λ (x : List Store). putAll (layoutIn a) x a) (r .2))
+    go false = (0, omega arith, refl)
+
+module _ (work : List ℕ) where
+  -- an arena mended for some lanes opens as it did
+  same-number : (a : List ℕ) (o : Opens a) (s : Small a) (n : ℕ) (u : n ≤ (layoutIn a) .N)
+      → (openOf (putAll (layoutIn a) (mends (layoutIn a) a n) a) work) .number ≡ (openOf a work) .number
+  unfolding openOf
+  same-number a o s n u = kept-number a o s n u (length work)
+
+  same-arena : (a : List ℕ) (o : Opens a) (s : Small a) (n : ℕ) (u : n ≤ (layoutIn a) .N) → (openOf a work) .number ≡ 0
+      → (openOf (putAll (layoutIn a) (mends (layoutIn a) a n) a) work) .arena ≡ (openOf a work) .arena
+  unfolding openOf
+  same-arena a o s n u e = rw (kept-number a o s n u (length work), e) (kept-mended a o s n u)
+
+  same-handle : (a : List ℕ) (o : Opens a) (s : Small a) (n : ℕ) (u : n ≤ (layoutIn a) .N)
+      → (openOf (putAll (layoutIn a) (mends (layoutIn a) a n) a) work) .handle ≡ (openOf a work) .handle
+  unfolding openOf
+  same-handle a o s n u = rw (kept-number a o s n u (length work), kept-handle a o s n u)
+
+  same-work : (a : List ℕ) (o : Opens a) (s : Small a) (n : ℕ) (u : n ≤ (layoutIn a) .N)
+      → (openOf (putAll (layoutIn a) (mends (layoutIn a) a n) a) work) .work ≡ (openOf a work) .work
+  unfolding openOf
+  same-work a o s n u = kept-work a o s n u work
+
+  cuts-kept : (cuts : List Cut) (a : List ℕ) → Opens a → Small a → CutsLeaveNoTrace a work cuts
+  unfolding afterCuts
+  cuts-kept [] a o s = record { number = refl; arena = λ _. refl; handle = refl; work-buffer = refl }
+  cuts-kept (c ∷ cs) a o s =
+      let q = cut-is a (c .work) (c .stores) in
+      let n = q .0 in
+      let u = q .1 in
+      let ih = cuts-kept cs (putAll (layoutIn a) (mends (layoutIn a) a n) a) (kept-opens a o s n u) (kept-small a o s n u) in
+      record {
+        number = rw (q .2) (ih .number ∙ same-number a o s n u);
+        arena = λ e. rw (q .2) (ih .arena (same-number a o s n u ∙ e) ∙ same-arena a o s n u e);
+        handle = rw (q .2) (ih .handle ∙ same-handle a o s n u);
+        work-buffer = rw (q .2) (ih .work-buffer ∙ same-work a o s n u);
+      }
+
+  pub cuts-no-trace : (a : List ℕ) (cuts : List Cut) → Small a → CutsLeaveNoTrace a work cuts
+  cuts-no-trace a cuts s = opens-or a (CutsLeaveNoTrace a work cuts) (λ o. cuts-kept cuts a o s)
+      (λ no-open. let e = cuts-refused cuts a no-open in record {
+        number = ap (λ (x : List ℕ). (openOf x work) .number) e;
+        arena = λ _. ap (λ (x : List ℕ). (openOf x work) .arena) e;
+        handle = ap (λ (x : List ℕ). (openOf x work) .handle) e;
+        work-buffer = ap (λ (x : List ℕ). (openOf x work) .work) e;
+      })

@@ -1,0 +1,66 @@
+-- An arena that passes rules 1 to 4: its layout is sound, and stores at places leave its info block alone.
+use mathlib.Core.Path.{_≡_}
+use mathlib.Core.Logic.{_⊎_, inl, inr}
+use mathlib.Core.List.{List}
+use mathlib.Core.Bool.{true, false}
+use Prim.Native.Nat.{ℕ, _+_, _*_, _≤_, _<_}
+use native.Mathlib.Omega.{arith}
+use lib.Dec.{eqb}
+use lib.ListN.{length}
+use Rattle.layout.specs.Figures.{lengthAllowed, Allowed}
+use Rattle.layout.specs.Place.{Layout, LayoutOk, InRange, at}
+use Rattle.infoblock.specs.Info.{infoBlockOf, headerAllowed, infoAllowed, flagsField}
+use Rattle.format.proofs.Tests.{and-elim}
+use Rattle.layout.proofs.Place.{at-inside}
+use Rattle.layout.proofs.Allowed.{allowed-of, layout-ok, layout-exact}
+use Rattle.infoblock.proofs.InfoBlock.{length-of, info-local}
+use Rattle.machine.specs.Stores.{Store, putAll}
+use Rattle.machine.specs.Opening.{figuresIn, layoutIn}
+use Rattle.machine.specs.Valid.{Small}
+use Rattle.machine.proofs.Stores.{Each, Arena, putAll-length, putAll-arena, word-miss}
+
+pub record Described (a : List ℕ) : Type 0 where
+  pub size : lengthAllowed (length a) ≡ true
+  pub block : eqb (length (infoBlockOf a)) 0 ≡ false
+  pub allowed : infoAllowed (infoBlockOf a) (length a) ≡ true
+  pub flags : eqb (flagsField (infoBlockOf a)) 0 ≡ true
+
+module _ (a : List ℕ) (d : Described a) where
+  pub described-figures : Allowed (figuresIn a) (length a)
+  described-figures = allowed-of (figuresIn a) (length a) (and-elim (headerAllowed (infoBlockOf a)) _ (d .allowed) .1)
+
+  pub described-layout : LayoutOk (layoutIn a)
+  described-layout = layout-ok (figuresIn a) (length a) described-figures (length-of (length a) (d .size) .2)
+
+  pub described-exact : length a ≡ 4 * (layoutIn a) .copy₀ + 4096
+  described-exact = layout-exact (figuresIn a) (length a) described-figures
+
+  pub described-arena : Small a → Arena (layoutIn a) a
+  described-arena small =
+      let e = described-exact in
+      let n = length-of (length a) (d .size) in
+      record { bytes = record { words = omega (arith, n .0); small = small }; long = omega arith }
+
+  -- stores at places leave both info blocks alone
+  pub info-kept : Small a → (ss : List Store) → Each (λ st. InRange (layoutIn a) (st .place)) ss
+      → infoBlockOf (putAll (layoutIn a) ss a) ≡ infoBlockOf a
+  info-kept small ss r =
+      info-local (putAll g ss a) a (putAll-length g ss a)
+      (λ i c. word-miss g described-layout ss a i (λ st m e. away i c (at-inside g described-layout (st .place) (r st m)) e))
+      (putAll-arena g described-layout ss a (described-arena small) .bytes .small) small
+    where
+      g : Layout
+      g = layoutIn a
+
+      away : {p : ℕ} (i : ℕ) → (i < 1024) ⊎ (length (putAll (layoutIn a) ss a) ≤ 4 * i + 4099) → (1024 ≤ p) × (p < (layoutIn a) .copy₀) → p ≡ i → ⊥
+      away i (inl c) h e = omega (arith, h .0)
+      away i (inr c) h e = omega (arith, h .1, putAll-length (layoutIn a) ss a, described-exact)
+
+-- what depends on the info block and the length alone
+pub described-same : (a b : List ℕ) → length b ≡ length a → infoBlockOf b ≡ infoBlockOf a → Described a → Described b
+described-same a b n e d = record {
+  size = rw n (d .size);
+  block = rw e (d .block);
+  allowed = rw (e, n) (d .allowed);
+  flags = rw e (d .flags);
+}

@@ -1,0 +1,202 @@
+-- An arena as making leaves its map and flog: every map word is 0, and lane l's first half is (l, E + l, E + l, 1), its second unset.
+-- So sector s has block s and lane l has E + l free, nothing is pending, and every test of opening passes.
+use mathlib.Core.Path.{_≡_, refl, sym, ap, ap₂, _∙_, subst}
+use mathlib.Core.Logic.{_⊎_, inl, inr}
+use mathlib.Core.Bool.{true, false, cond}
+use mathlib.Core.List.{List, [], _∷_, _++_, append-assoc}
+use Prim.Native.Nat.{ℕ, zero, suc, _+_, _-_, _≤_, _<_}
+use native.Mathlib.Omega.{arith}
+use native.Mathlib.Decide.{ℕ-discrete}
+use lib.Dec.{eqb, ltb}
+use lib.ListN.{length, getD, length-append}
+use lib.Seq.{getD-at}
+use borrow.Author.Tests.{lt-ltb, ltb-true, ltb-false, ne-eqb, eq-eqb}
+use Rattle.format.specs.Tests.{every, some}
+use Rattle.format.specs.Sequence.{newer, successor}
+use Rattle.format.specs.MapWord.{blockOf, badWord}
+use Rattle.layout.specs.Place.{Layout, LayoutOk}
+use Rattle.format.proofs.Tests.{by-bool, every-intro, some-intro}
+use Rattle.format.proofs.MapWord.{block-zero}
+use Rattle.machine.specs.declared.lane.Lane.{Lane}
+use Rattle.machine.specs.Lane.{idleLane, noLane}
+use Rattle.machine.specs.Stores.{Store, putAll}
+use Rattle.machine.specs.Flog.{mapWord, mapBlock, flogWord, newerHalf, logged, freeOf, pending}
+use Rattle.machine.specs.Opening.{
+  laneReadable,
+  mends,
+  pendingLanes,
+  mended,
+  twoPending,
+  count,
+  eachOnce,
+  foundLane,
+  foundLanes,
+}
+use Rattle.machine.specs.Valid.{Readable, BadWord, Pending, blockAt, EachOnce, Settled}
+
+pub record Fresh (g : Layout) (a : List ℕ) : Type 0 where
+  pub ok : LayoutOk g
+  pub map : (s : ℕ) → s < g .E → mapWord g a s ≡ 0
+  pub sector : (l : ℕ) → l < g .N → flogWord g a l 0 0 ≡ l
+  pub old : (l : ℕ) → l < g .N → flogWord g a l 0 1 ≡ g .E + l
+  pub new : (l : ℕ) → l < g .N → flogWord g a l 0 2 ≡ g .E + l
+  pub first : (l : ℕ) → l < g .N → flogWord g a l 0 3 ≡ 1
+  pub second : (l : ℕ) → l < g .N → flogWord g a l 1 3 ≡ 0
+
+-- how often b is among c, c + 1, .. , c + n - 1
+count-miss : (n c b : ℕ) (f : ℕ → ℕ) → ((i : ℕ) → i < n → f i ≡ c + i) → (b < c) ⊎ (c + n ≤ b) → count n f b ≡ 0
+unfolding count
+count-miss zero c b f e h = refl
+count-miss (suc n) c b f e h =
+    rw (ne-eqb b (f n) (λ d. apart h (e n (omega arith)) d), count-miss n c b f (λ i u. e i (omega arith)) (less h))
+  where
+    apart : (b < c) ⊎ (c + suc n ≤ b) → f n ≡ c + n → b ≡ f n → ⊥
+    apart (inl u) p q = omega arith
+    apart (inr u) p q = omega arith
+
+    less : (b < c) ⊎ (c + suc n ≤ b) → (b < c) ⊎ (c + n ≤ b)
+    less (inl u) = inl u
+    less (inr u) = inr (omega arith)
+
+count-hit : (n c b : ℕ) (f : ℕ → ℕ) → ((i : ℕ) → i < n → f i ≡ c + i) → c ≤ b → b < c + n → count n f b ≡ 1
+unfolding count
+count-hit zero c b f e h k = absurd (omega arith)
+count-hit (suc n) c b f e h k =
+    go (ℕ-discrete b (c + n)) (λ u. count-hit n c b f (λ i v. e i (omega arith)) h u)
+    (λ u. count-miss n c b f (λ i v. e i (omega arith)) u)
+  where
+    go : Dec (b ≡ c + n) → (b < c + n → count n f b ≡ 1) → ((b < c) ⊎ (c + n ≤ b) → count n f b ≡ 0)
+        → count n f b + cond (eqb b (f n)) 1 0 ≡ 1
+    go (yes p) hit miss = rw (eq-eqb b (f n) (p ∙ sym (e n (omega arith))), miss (inr (omega arith)))
+    go (no p) hit miss = rw (ne-eqb b (f n) (λ q. p (q ∙ e n (omega arith))), hit (omega arith))
+
+-- the lanes of a handle as opening finds them
+pub found-length : (g : Layout) (a : List ℕ) (n : ℕ) → length (foundLanes g a n) ≡ n
+unfolding foundLanes
+found-length g a zero = refl
+found-length g a (suc n) = length-append (foundLanes g a n) (foundLane g a n ∷ []) ∙ omega (arith, found-length g a n)
+
+pub found-at : (g : Layout) (a : List ℕ) (n l : ℕ) (rest : List Lane) → l < n → getD (foundLanes g a n ++ rest) l noLane ≡ foundLane g a l
+unfolding foundLanes
+found-at g a zero l rest u = absurd (omega arith)
+found-at g a (suc n) l rest u =
+    ap (λ (x : List Lane). getD x l noLane) (append-assoc (foundLanes g a n) (foundLane g a n ∷ []) rest)
+    ∙ go (ℕ-discrete l n) (λ v. found-at g a n l (foundLane g a n ∷ rest) v)
+  where
+    P : Type 0
+    P = getD (foundLanes g a n ++ (foundLane g a n ∷ rest)) l noLane ≡ foundLane g a l
+
+    go : Dec (l ≡ n) → (l < n → P) → P
+    go (yes e) ih =
+        getD-at (foundLanes g a n) (foundLane g a n) rest noLane l (found-length g a n ∙ sym e) ∙ ap (foundLane g a) (sym e)
+    go (no d) ih = ih (omega arith)
+
+module _ (g : Layout) (a : List ℕ) (f : Fresh g a) where
+  newer-fresh : (l : ℕ) → l < g .N → newerHalf g a l ≡ 0
+  unfolding newerHalf newer
+  newer-fresh l u = ap₂ newer (f .first l u) (f .second l u)
+
+  logged-fresh : (l k x : ℕ) → l < g .N → flogWord g a l 0 k ≡ x → logged g a l k ≡ x
+  logged-fresh l k x u e = ap (λ (h : ℕ). flogWord g a l h k) (newer-fresh l u) ∙ e
+
+  block-fresh : (s : ℕ) → s < g .E → mapBlock g a s ≡ s
+  block-fresh s u = ap (blockOf s) (f .map s u) ∙ block-zero s
+
+  free-fresh : (l : ℕ) → l < g .N → freeOf g a l ≡ g .E + l
+  free-fresh l u = logged-fresh l 1 (g .E + l) u (f .old l u)
+
+  -- lane l names sector l, whose block is l, and its free block is E + l
+  settled-fresh : (l : ℕ) → l < g .N → Pending g a l → ⊥
+  settled-fresh l u e =
+      let o = f .ok in
+      let s : logged g a l 0 ≡ l = logged-fresh l 0 l u (f .sector l u) in
+      let m : mapBlock g a (logged g a l 0) ≡ l = ap (mapBlock g a) s ∙ block-fresh l (omega arith) in
+      let z : l ≡ g .E + l = sym m ∙ e ∙ free-fresh l u in
+      omega arith
+
+  pending-fresh : (l : ℕ) → l < g .N → pending g a l ≡ false
+  unfolding pending
+  pending-fresh l u = ne-eqb _ _ (settled-fresh l u)
+
+  mends-fresh : (n : ℕ) → n ≤ g .N → mends g a n ≡ []
+  unfolding mends
+  mends-fresh zero u = refl
+  mends-fresh (suc n) u = rw (mends-fresh n (omega arith), pending-fresh n (omega arith))
+
+  count-fresh : (n : ℕ) → n ≤ g .N → pendingLanes g a n ≡ 0
+  unfolding pendingLanes
+  count-fresh zero u = refl
+  count-fresh (suc n) u = rw (count-fresh n (omega arith), pending-fresh n (omega arith))
+
+  pub pending-none : pendingLanes g a (g .N) ≡ 0
+  pending-none = count-fresh (g .N) (omega arith)
+
+  pub mended-same : mended g a ≡ a
+  unfolding putAll
+  mended-same = ap (λ (m : List Store). putAll g m a) (mends-fresh (g .N) (omega arith))
+
+  pub readable : (l : ℕ) → l < g .N → Readable g a l
+  readable l u =
+      let o = f .ok in
+      let h = newer-fresh l u in
+      let s = logged-fresh l 0 l u (f .sector l u) in
+      let d = logged-fresh l 1 (g .E + l) u (f .old l u) in
+      let n = logged-fresh l 2 (g .E + l) u (f .new l u) in
+      record { newer = omega arith; sector = omega arith; old = omega arith; new = omega arith }
+
+  pub lanes-readable : every (g .N) (laneReadable g a) ≡ true
+  unfolding laneReadable
+  lanes-readable =
+      every-intro (g .N) (laneReadable g a)
+      (λ l u. let r = readable l u in rw (lt-ltb _ _ (r .newer), lt-ltb _ _ (r .sector), lt-ltb _ _ (r .old), lt-ltb _ _ (r .new)))
+
+  pub words-fine : some (g .E) (λ s. badWord (g .I) (mapWord g a s)) ≡ false
+  words-fine = some-intro (g .E) (λ s. badWord (g .I) (mapWord g a s)) (λ s u. rw (f .map s u))
+
+  pub no-bad-word : (s : ℕ) → s < g .E → BadWord (g .I) (mapWord g a s) → ⊥
+  no-bad-word s u b = b .0 (rw (f .map s u))
+
+  pub no-two-pending : twoPending g a ≡ false
+  unfolding twoPending
+  no-two-pending = some-intro (g .N) _ (λ l u. some-intro l _ (λ j v. rw (pending-fresh l u)))
+
+  counted : (b : ℕ) → b < g .I → count (g .E) (mapBlock g a) b + count (g .N) (freeOf g a) b ≡ 1
+  counted b u =
+      by-bool (ltb b (g .E)) (count (g .E) (mapBlock g a) b + count (g .N) (freeOf g a) b ≡ 1)
+      (λ t. let h : b < g .E = ltb-true b (g .E) t in
+      ap₂ _+_ (count-hit (g .E) 0 b (mapBlock g a) (λ i v. block-fresh i v ∙ omega arith) (omega arith) (omega arith))
+      (count-miss (g .N) (g .E) b (freeOf g a) free-fresh (inl h)))
+      (λ t. let h : g .E ≤ b = ltb-false b (g .E) t in
+      let o = f .ok in
+      ap₂ _+_ (count-miss (g .E) 0 b (mapBlock g a) (λ i v. block-fresh i v ∙ omega arith) (inr (omega arith)))
+      (count-hit (g .N) (g .E) b (freeOf g a) free-fresh h (omega arith)))
+
+  pub each-once : eachOnce g (mapBlock g (mended g a)) (freeOf g a) ≡ true
+  unfolding eachOnce
+  each-once = rw mended-same (every-intro (g .I) _ (λ b u. eq-eqb _ _ (counted b u)))
+
+  block-at : (i : ℕ) → i < g .E + g .N → blockAt g (mapBlock g a) (freeOf g a) i ≡ i
+  block-at i u =
+      by-bool (ltb i (g .E)) (blockAt g (mapBlock g a) (freeOf g a) i ≡ i)
+      (λ t. rw t (block-fresh i (ltb-true i (g .E) t)))
+      (λ t. let h : g .E ≤ i = ltb-false i (g .E) t in rw t (free-fresh (i - g .E) (omega arith) ∙ omega arith))
+
+  once : EachOnce g (mapBlock g a) (freeOf g a)
+  once =
+      let o = f .ok in
+      record {
+        inside = λ i u. rw (block-at i u) (omega arith);
+        each = λ b u. (b, omega arith, block-at b (omega arith));
+        once = λ i j u v e. sym (block-at i u) ∙ e ∙ block-at j v;
+      }
+
+  pub settled : Settled g a
+  settled = record {
+    apart = λ l j u v n p q e. settled-fresh l u p;
+    once = subst (λ (m : List ℕ). EachOnce g (mapBlock g m) (freeOf g a)) (sym mended-same) once;
+  }
+
+  -- lane l as opening finds it
+  pub lane-fresh : (l : ℕ) → l < g .N → foundLane g a l ≡ idleLane (g .E + l) 1 2
+  unfolding successor
+  lane-fresh l u = rw (newer-fresh l u, f .old l u, f .first l u)

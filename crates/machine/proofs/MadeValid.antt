@@ -1,0 +1,227 @@
+-- A made arena is valid and opens: the block that counts is its first one, whose figures are the given ones,
+-- and its map and flog are fresh, so that each of opening's tests passes.
+use mathlib.Core.Path.{_≡_, refl, sym, ap, _∙_, subst}
+use mathlib.Core.Bool.{Bool, true, false, cond}
+use mathlib.Core.List.{List}
+use Prim.Native.Nat.{ℕ, _+_, _-_, _*_, _≤_, _<_}
+use native.Mathlib.Omega.{arith}
+use lib.Dec.{eqb}
+use lib.ListN.{length, getD, take, drop, replicate}
+use borrow.Author.Tests.{eq-eqb, ne-eqb, le-ltb}
+use Rattle.words.specs.Word.{word}
+use Rattle.layout.specs.Figures.{lengthAllowed, Allowed, maxLanes}
+use Rattle.layout.specs.Place.{Layout, layoutOf}
+use Rattle.infoblock.specs.Info.{sound, infoBlockOf, flagsField, figuresOf, infoAllowed, infoWords}
+use Rattle.layout.specs.declared.Figures.{Figures}
+use Rattle.format.proofs.Below.{Below, below-take}
+use Rattle.layout.proofs.Allowed.{of-allowed, layout-ok, layout-exact}
+use Rattle.infoblock.proofs.InfoBlock.{length-of, info-in, counting-main, signed-bytes, sound-signed, sound-checksum}
+use Rattle.machine.specs.Lane.{idleLane, noLane}
+use Rattle.machine.specs.Handle.{laneAt}
+use Rattle.machine.specs.Making.{dataEnd}
+use Rattle.machine.specs.Opening.{figuresIn, layoutIn, openNumber, openOf, handleFor}
+use Rattle.machine.specs.Valid.{LengthOk, Sound, InfoOk, Valid}
+use Rattle.machine.proofs.FreshArena.{
+  Fresh,
+  found-at,
+  lane-fresh,
+  pending-none,
+  mended-same,
+  readable,
+  lanes-readable,
+  words-fine,
+  no-bad-word,
+  no-two-pending,
+  each-once,
+  settled,
+}
+use Rattle.machine.proofs.FreshInfo.{
+  info-length,
+  info-below,
+  sound-fresh,
+  flags-fresh,
+  figures-fresh,
+  version-fresh,
+  info-size-fresh,
+  next-fresh,
+  header-fresh,
+}
+use Rattle.machine.proofs.MadeArena.{
+  made,
+  Room,
+  made-length,
+  made-fresh,
+  made-kept,
+  made-bytes,
+  main-length,
+  main-word,
+  made-copy,
+}
+
+-- rule 1 as a test and as its record
+pub length-ok : (n : ℕ) → lengthAllowed n ≡ true → LengthOk n
+length-ok n e = let h = length-of n e in record { multiple = h .0; least = h .1; most = h .2 }
+
+-- the arena made of two identifiers and figures
+abbrev pub madeOf : List ℕ → List ℕ → Figures → List ℕ → List ℕ
+madeOf first second f a = made (layoutOf f) a (infoWords first second f)
+
+half : (f : Figures) → (layoutOf f) .D ≡ 4
+unfolding layoutOf
+half f = refl
+
+same : {A : Type 0} (t : Bool) (x : A) → cond t x x ≡ x
+same true x = refl
+same false x = refl
+
+-- what making is given, once accepted
+pub record Given (first second : List ℕ) (f : Figures) (a : List ℕ) : Type 0 where
+  pub first-small : Below 256 first
+  pub second-small : Below 256 second
+  pub small : Below 256 a
+  pub ok : Allowed f (length a)
+  pub size : lengthAllowed (length a) ≡ true
+
+module _ (first second : List ℕ) (f : Figures) (a : List ℕ) (d : Given first second f a) where
+  room : Room (layoutOf f) a (infoWords first second f)
+  room =
+      let most : length a ≤ 16777216 = length-of (length a) (d .size) .2 in
+      record {
+        ok = layout-ok f (length a) (d .ok) most;
+        half = half f;
+        exact = layout-exact f (length a) (d .ok);
+        block = info-length first second f;
+        below = info-below first second f (d .first-small) (d .second-small) (length a) (d .ok) most;
+      }
+
+  pub same-length : length (madeOf first second f a) ≡ length a
+  same-length = made-length (layoutOf f) a (infoWords first second f) room
+
+  pub same-copy : take 4096 (madeOf first second f a) ≡ drop (length a - 4096) (madeOf first second f a)
+  same-copy = made-copy (layoutOf f) a (infoWords first second f) room (d .small)
+
+  pub kept : (j : ℕ) → 4096 ≤ j → j < 4 * dataEnd (layoutOf f) → getD (madeOf first second f a) j 0 ≡ getD a j 0
+  kept = made-kept (layoutOf f) a (infoWords first second f) room
+
+  allowed : lengthAllowed (length (madeOf first second f a)) ≡ true
+  allowed = ap lengthAllowed same-length ∙ d .size
+
+  main : List ℕ
+  main = take 4096 (madeOf first second f a)
+
+  main-size : length main ≡ 4096
+  unfolding main
+  main-size = main-length (layoutOf f) a (infoWords first second f) room (d .small)
+
+  main-is : (i : ℕ) → i < 1024 → word main i ≡ getD (infoWords first second f) i 0
+  unfolding main
+  main-is = main-word (layoutOf f) a (infoWords first second f) room (d .small)
+
+  main-small : Below 256 main
+  unfolding main
+  main-small =
+      below-take 256 4096 (madeOf first second f a) (omega arith)
+      (made-bytes (layoutOf f) a (infoWords first second f) room (d .small) .small)
+
+  main-sound : sound main ≡ true
+  main-sound = sound-fresh first second f main main-size main-is
+
+  block : infoBlockOf (madeOf first second f a) ≡ main
+  unfolding main
+  block =
+      info-in (madeOf first second f a) allowed
+      ∙ counting-main main (drop (length (madeOf first second f a) - 4096) (madeOf first second f a)) main-sound
+
+  pub figures-in : figuresIn (madeOf first second f a) ≡ f
+  figures-in = ap figuresOf block ∙ figures-fresh first second f main main-size main-is
+
+  pub layout-in : layoutIn (madeOf first second f a) ≡ layoutOf f
+  layout-in = ap layoutOf figures-in
+
+  pub fresh : Fresh (layoutIn (madeOf first second f a)) (madeOf first second f a)
+  fresh =
+      subst (λ (g : Layout). Fresh g (madeOf first second f a)) (sym layout-in)
+      (made-fresh (layoutOf f) a (infoWords first second f) room)
+
+  sound-block : Sound main
+  sound-block = record {
+    size = main-size;
+    signed = signed-bytes main (omega (arith, main-size)) main-small (sound-signed main main-sound);
+    checksum = sound-checksum main main-sound;
+  }
+
+  info-ok : InfoOk main (length a)
+  info-ok =
+      let v = version-fresh first second f main main-size main-is in
+      record {
+        major = rw v;
+        minor = rw v;
+        info-size = info-size-fresh first second f main main-size main-is;
+        next = next-fresh first second f main main-size main-is;
+        figures = subst (λ (x : Figures). Allowed x (length a)) (sym (figures-fresh first second f main main-size main-is)) (d .ok);
+      }
+
+  pub valid : Valid (madeOf first second f a)
+  valid = record {
+    size = length-ok _ allowed;
+    info = subst Sound (sym block) sound-block;
+    figures = rw (block, same-length) info-ok;
+    flags = ap flagsField block ∙ flags-fresh first second f main main-size main-is;
+    lanes = readable (layoutIn (madeOf first second f a)) (madeOf first second f a) fresh;
+    words = no-bad-word (layoutIn (madeOf first second f a)) (madeOf first second f a) fresh;
+    settled = settled (layoutIn (madeOf first second f a)) (madeOf first second f a) fresh;
+  }
+
+  info-allowed : infoAllowed (infoBlockOf (madeOf first second f a)) (length (madeOf first second f a)) ≡ true
+  info-allowed =
+      rw (
+        block,
+        same-length,
+        header-fresh first second f main main-size main-is,
+        figures-fresh first second f main main-size main-is,
+        of-allowed f (length a) (d .ok),
+      )
+
+  not-empty : eqb (length (infoBlockOf (madeOf first second f a))) 0 ≡ false
+  not-empty = ne-eqb (length (infoBlockOf (madeOf first second f a))) 0 (λ z. omega (arith, ap length block, main-size))
+
+  flags-zero : eqb (flagsField (infoBlockOf (madeOf first second f a))) 0 ≡ true
+  flags-zero = eq-eqb _ 0 (ap flagsField block ∙ flags-fresh first second f main main-size main-is)
+
+  pub opens : (room : ℕ) → (layoutIn (madeOf first second f a)) .I ≤ room → openNumber (madeOf first second f a) room ≡ 0
+  unfolding openNumber
+  opens room h =
+      let g = layoutIn (madeOf first second f a) in
+      let m = madeOf first second f a in
+      rw (
+        allowed,
+        not-empty,
+        info-allowed,
+        flags-zero,
+        le-ltb room (g .I) h,
+        lanes-readable g m fresh,
+        words-fine g m fresh,
+        no-two-pending g m fresh,
+        each-once g m fresh,
+      )
+
+  -- none mended and no byte changed, whether or not there is room
+  pub opened-mended : (work : List ℕ) → (openOf (madeOf first second f a) work) .mended ≡ 0
+  unfolding openOf
+  opened-mended work =
+      let m = madeOf first second f a in
+      rw (pending-none (layoutIn m) m fresh) (same (eqb (openNumber m (length work)) 0) 0)
+
+  pub opened-arena : (work : List ℕ) → (openOf (madeOf first second f a) work) .arena ≡ madeOf first second f a
+  unfolding openOf
+  opened-arena work =
+      let m = madeOf first second f a in
+      rw (mended-same (layoutIn m) m fresh) (same (eqb (openNumber m (length work)) 0) m)
+
+  pub opened-lane : (work : List ℕ) (l : ℕ) → (layoutIn (madeOf first second f a)) .I ≤ length work → l < (layoutIn (madeOf first second f a)) .N
+      → laneAt ((openOf (madeOf first second f a) work) .handle .lanes) l ≡ idleLane ((layoutIn (madeOf first second f a)) .E + l) 1 2
+  unfolding openOf handleFor
+  opened-lane work l h u =
+      let g = layoutIn (madeOf first second f a) in
+      let m = madeOf first second f a in
+      rw (opens (length work) h) (found-at g m (g .N) l (replicate (maxLanes - g .N) noLane) u ∙ lane-fresh g m fresh l u)

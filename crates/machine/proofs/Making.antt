@@ -1,0 +1,179 @@
+-- The claim about making: its row by its tests, and of an accepted order the made arena, whose info block, map and flog are fresh.
+use mathlib.Core.Path.{_≡_, refl, ap, _∙_}
+use mathlib.Core.Logic.{_≢_, _⊎_, ⊎-elim}
+use mathlib.Core.Bool.{true, not, _&&_}
+use mathlib.Core.List.{List}
+use Prim.Native.Nat.{ℕ, _+_, _*_, _%_, _<_}
+use native.Mathlib.Omega.{arith}
+use lib.Dec.{eqb}
+use lib.ListN.{length, replicate, length-replicate}
+use borrow.Author.Tests.{eqb-true, eq-eqb, ne-eqb, not-false}
+use Rattle.format.specs.MapWord.{flagsOf, readingOf}
+use Rattle.layout.specs.Figures.{lengthAllowed, sizesAllowed, Allowed, madeLength, madeFigures}
+use Rattle.layout.specs.Place.{Layout, layoutOf}
+use Rattle.layout.specs.declared.Figures.{Figures}
+use Rattle.format.proofs.Tests.{and-intro, and-elim}
+use Rattle.layout.proofs.Allowed.{sizes-of, of-sizes, made-allowed, quarter}
+use Rattle.infoblock.proofs.InfoBlock.{of-length}
+use Rattle.machine.specs.Rules.{First}
+use Rattle.machine.specs.Lane.{idleLane}
+use Rattle.machine.specs.Flog.{mapWord}
+use Rattle.machine.specs.Making.{Order, makeNumber, makeOf, madeArena, dataEnd}
+use Rattle.machine.specs.Opening.{layoutIn, openOf, mended}
+use Rattle.machine.specs.Valid.{Small, LengthOk, SizesOk, makeRow}
+use Rattle.machine.specs.Claims.{Lent, MadeArena, smallest, MakingClaim}
+use Rattle.machine.proofs.Rows.{passed, first-of, asks, end}
+use Rattle.machine.proofs.MadeValid.{
+  Given,
+  length-ok,
+  madeOf,
+  same-length,
+  same-copy,
+  kept,
+  figures-in,
+  layout-in,
+  fresh,
+  valid,
+  opens,
+  opened-mended,
+  opened-arena,
+  opened-lane,
+}
+
+row : (o : Order) (a : List ℕ) → First (makeRow o (length a)) ((makeOf o a) .number)
+unfolding makeRow makeOf makeNumber
+row o a =
+    first-of
+    (asks (sizesAllowed (o .size) (o .sectors) (o .lanes)) (SizesOk (o .size) (o .sectors) (o .lanes)) 3
+    (λ e. let h = sizes-of (o .size) (o .sectors) (o .lanes) e in record { size-ok = h .0; enough = h .1; some-lane = h .2; few-lanes = h .3 })
+    (λ s. of-sizes (o .size) (o .sectors) (o .lanes) (s .size-ok) (s .enough) (s .some-lane) (s .few-lanes))
+    (λ _. asks (lengthAllowed n && eqb n m) (LengthOk n × (n ≡ m)) 1
+    (λ e. let p = and-elim (lengthAllowed n) (eqb n m) e in (length-ok n (p .0), eqb-true n m (p .1)))
+    (λ p. and-intro (lengthAllowed n) (eqb n m) (of-length n (p .0 .multiple) (p .0 .least) (p .0 .most)) (eq-eqb n m (p .1)))
+    (λ _. asks (eqb x 16 && eqb y 16) ((x ≡ 16) × (y ≡ 16)) 10
+    (λ e. let p = and-elim (eqb x 16) (eqb y 16) e in (eqb-true x 16 (p .0), eqb-true y 16 (p .1)))
+    (λ p. and-intro (eqb x 16) (eqb y 16) (eq-eqb x 16 (p .0)) (eq-eqb y 16 (p .1)))
+    (λ _. end))))
+  where
+    n : ℕ
+    n = length a
+
+    m : ℕ
+    m = madeLength (o .size) (o .sectors) (o .lanes)
+
+    x : ℕ
+    x = length (o .first)
+
+    y : ℕ
+    y = length (o .second)
+
+refused : (o : Order) (a : List ℕ) → (makeOf o a) .number ≢ 0 → (makeOf o a) .arena ≡ a
+unfolding makeOf
+refused o a n = rw (ne-eqb (makeNumber o (length a)) 0 n)
+
+one-number : makeNumber smallest 20480 ≡ 0
+unfolding makeNumber madeLength
+one-number = refl
+
+one : (makeOf smallest (replicate 20480 0)) .number ≡ 0
+unfolding makeOf
+one = ap (makeNumber smallest) (length-replicate {A = ℕ} 20480 0) ∙ one-number
+
+-- what an accepted order gives
+record Accepted (o : Order) (n : ℕ) : Type 0 where
+  pub sizes : sizesAllowed (o .size) (o .sectors) (o .lanes) ≡ true
+  pub size : lengthAllowed n ≡ true
+  pub exact : n ≡ madeLength (o .size) (o .sectors) (o .lanes)
+
+accepted : (o : Order) (n : ℕ) → makeNumber o n ≡ 0 → Accepted o n
+unfolding makeNumber
+accepted o n e =
+    let m = madeLength (o .size) (o .sectors) (o .lanes) in
+    let s = sizesAllowed (o .size) (o .sectors) (o .lanes) in
+    let p = passed (not s) 2 _ e in
+    let q = passed (not (lengthAllowed n && eqb n m)) 0 _ (p .1) in
+    let r = and-elim (lengthAllowed n) (eqb n m) (not-false _ (q .0)) in
+    record { sizes = not-false s (p .0); size = r .0; exact = eqb-true n m (r .1) }
+
+-- the made layout's sectors, lanes and blocks
+module _ (size sectors lanes : ℕ) where
+  made-sectors : (layoutOf (madeFigures size sectors lanes)) .E ≡ sectors
+  unfolding layoutOf madeFigures
+  made-sectors = refl
+
+  made-lanes : (layoutOf (madeFigures size sectors lanes)) .N ≡ lanes
+  unfolding layoutOf madeFigures
+  made-lanes = refl
+
+  made-blocks : (layoutOf (madeFigures size sectors lanes)) .I ≡ sectors + lanes
+  unfolding layoutOf madeFigures
+  made-blocks = refl
+
+  -- where the data blocks end, in bytes
+  made-data : (size ≡ 512) ⊎ (size ≡ 4096) → 4 * dataEnd (layoutOf (madeFigures size sectors lanes)) ≡ 4096 + (sectors + lanes) * size
+  unfolding layoutOf madeFigures
+  made-data h =
+      let z : size % 4 ≡ 0 = ⊎-elim (λ e. omega arith) (λ e. omega arith) h in
+      omega (arith, quarter (sectors + lanes) size z)
+
+module _ (o : Order) (a : List ℕ) (small : Small a) (lent : Lent o) (e : (makeOf o a) .number ≡ 0) where
+  figures : Figures
+  figures = madeFigures (o .size) (o .sectors) (o .lanes)
+
+  order : Accepted o (length a)
+  unfolding makeOf
+  order = accepted o (length a) e
+
+  arena : (makeOf o a) .arena ≡ madeOf (o .first) (o .second) figures a
+  unfolding makeOf madeArena figures
+  arena = rw e
+
+  ok : Allowed figures (length a)
+  unfolding figures
+  ok = rw (order .exact) (made-allowed (o .size) (o .sectors) (o .lanes) (order .sizes))
+
+  given : Given (o .first) (o .second) figures a
+  given = record { first-small = lent .first; second-small = lent .second; small = small; ok = ok; size = order .size }
+
+  made-layout : layoutIn (madeOf (o .first) (o .second) figures a) ≡ layoutOf figures
+  made-layout = layout-in (o .first) (o .second) figures a given
+
+  sectors-in : (layoutIn (madeOf (o .first) (o .second) figures a)) .E ≡ o .sectors
+  unfolding figures
+  sectors-in = ap (λ (g : Layout). g .E) made-layout ∙ made-sectors (o .size) (o .sectors) (o .lanes)
+
+  lanes-in : (layoutIn (madeOf (o .first) (o .second) figures a)) .N ≡ o .lanes
+  unfolding figures
+  lanes-in = ap (λ (g : Layout). g .N) made-layout ∙ made-lanes (o .size) (o .sectors) (o .lanes)
+
+  blocks-in : (layoutIn (madeOf (o .first) (o .second) figures a)) .I ≡ o .sectors + o .lanes
+  unfolding figures
+  blocks-in = ap (λ (g : Layout). g .I) made-layout ∙ made-blocks (o .size) (o .sectors) (o .lanes)
+
+  data-end : 4 * dataEnd (layoutOf figures) ≡ 4096 + (o .sectors + o .lanes) * o .size
+  unfolding figures
+  data-end = made-data (o .size) (o .sectors) (o .lanes) (sizes-of (o .size) (o .sectors) (o .lanes) (order .sizes) .0)
+
+  map-zero : (s : ℕ) → s < o .sectors → mapWord (layoutIn (madeOf (o .first) (o .second) figures a)) (madeOf (o .first) (o .second) figures a) s ≡ 0
+  map-zero s u = fresh (o .first) (o .second) figures a given .map s (omega (arith, sectors-in))
+
+  made-arena : MadeArena o a
+  unfolding openOf figures
+  made-arena = record {
+    valid = rw arena (valid (o .first) (o .second) figures a given);
+    figures = rw arena (figures-in (o .first) (o .second) figures a given);
+    size = rw arena (same-length (o .first) (o .second) figures a given);
+    copy = rw arena (same-copy (o .first) (o .second) figures a given);
+    number = λ work h. rw arena (opens (o .first) (o .second) figures a given (length work) (omega (arith, blocks-in)));
+    mended = λ work. rw arena (opened-mended (o .first) (o .second) figures a given work);
+    arena = λ work. rw arena (opened-arena (o .first) (o .second) figures a given work);
+    lanes = λ work l h u. rw arena
+        (opened-lane (o .first) (o .second) figures a given work l (omega (arith, blocks-in)) (omega (arith, lanes-in))
+        ∙ ap (λ (n : ℕ). idleLane (n + l) 1 2) sectors-in);
+    map = λ s u. rw arena (map-zero s u);
+    zeroes = λ s u. rw arena (ap (λ (w : ℕ). readingOf (flagsOf w)) (map-zero s u));
+    kept = λ j u v. rw arena (kept (o .first) (o .second) figures a given j u (omega (arith, data-end)));
+  }
+
+pub making-claim : MakingClaim
+making-claim = record { row = row; refused = refused; made = made-arena; one = one }

@@ -1,0 +1,177 @@
+-- The stores of an opening are map words, one for each pending lane. Where no two pending lanes name one sector, each store moves
+-- the lane's old block from the map to the free blocks and its new block into the map, so that counts of blocks come out even.
+use mathlib.Core.Path.{_≡_, refl, sym, ap, _∙_}
+use mathlib.Core.Logic.{_≢_, _⊎_, inl, inr}
+use mathlib.Core.List.{List, [], _∷_, append-nil, List·Memᴰ, List·Memᴰ·cases-cons, List·Memᴰ·not-nil, List·Memᴰ·append-cases}
+use mathlib.Core.Bool.{Bool, true, false, cond}
+use Prim.Native.Nat.{ℕ, zero, suc, _+_, _≤_, _<_}
+use native.Mathlib.Omega.{arith}
+use native.Mathlib.Decide.{decLe}
+use lib.Dec.{ltb}
+use lib.ListN.{length, take, length-append}
+use lib.Seq.{take-all, take-nil, take-append-le}
+use borrow.Author.Tests.{eqb-true, ltb-true}
+use Rattle.format.specs.Tests.{some}
+use Rattle.layout.specs.Place.{Layout, LayoutOk}
+use Rattle.format.proofs.Tests.{by-bool, all-elim}
+use Rattle.machine.specs.Stores.{stored, putAll}
+use Rattle.machine.specs.Flog.{mapBlock, flogWord, newerHalf, logged, freeOf, pending, spareOf}
+use Rattle.machine.specs.Opening.{laneReadable, mendStore, mends, pendingLanes, mended, count}
+use Rattle.machine.specs.Valid.{Readable}
+use Rattle.machine.proofs.Once.{hit, count-suc, count-change}
+use Rattle.machine.proofs.Stores.{Fits, Each, Arena, putAll-one, putAll-arena}
+use Rattle.machine.proofs.MapStores.{map-fits, map-flog, map-other, map-here, map-keeps}
+use Rattle.machine.proofs.Inv.{same-newer}
+
+-- rule 6 as a test and in words
+pub readable-of : (g : Layout) (a : List ℕ) (l : ℕ) → laneReadable g a l ≡ true → Readable g a l
+unfolding laneReadable
+readable-of g a l e =
+    let h = all-elim (ltb (newerHalf g a l) 2 ∷ ltb (logged g a l 0) (g .E) ∷ ltb (logged g a l 1) (g .I) ∷ ltb (logged g a l 2) (g .I) ∷ []) e in
+    record { newer = ltb-true _ _ (h .0); sector = ltb-true _ _ (h .1 .0); old = ltb-true _ _ (h .1 .1 .0); new = ltb-true _ _ (h .1 .1 .1 .0) }
+
+-- a pending lane's sector is mapped to its old block
+pub pending-old : (g : Layout) (a : List ℕ) (l : ℕ) → pending g a l ≡ true → mapBlock g a (logged g a l 0) ≡ freeOf g a l
+unfolding pending
+pending-old g a l e = eqb-true _ _ e
+
+-- ---- the list of stores
+
+module _ (g : Layout) (a : List ℕ) where
+  pub length-mends : (n : ℕ) → length (mends g a n) ≡ pendingLanes g a n
+  unfolding mends pendingLanes
+  length-mends zero = refl
+  length-mends (suc n) = rw length-append (omega (arith, length-mends n, one (pending g a n)))
+    where
+      one : (t : Bool) → length (cond t (mendStore g a n ∷ []) []) ≡ cond t 1 0
+      one true = refl
+      one false = refl
+
+  -- the first k of the stores are those of the lanes below some n, and all where k is enough
+  pub mends-take : (m k : ℕ) → (n : ℕ) × (n ≤ m) × (take k (mends g a m) ≡ mends g a n) × (pendingLanes g a m ≤ k → n ≡ m)
+  mends-take zero k = (0, omega arith, none, λ _. refl)
+    where
+      none : take k (mends g a zero) ≡ mends g a zero
+      none = unfold mends in take-nil k
+  mends-take (suc m) k = go (decLe (pendingLanes g a (suc m)) k) (mends-take m k)
+    where
+      fewer : pendingLanes g a (suc m) ≤ pendingLanes g a m + 1
+      fewer = unfold pendingLanes in (by-bool (pending g a m) (pendingLanes g a (suc m) ≤ pendingLanes g a m + 1)
+          (λ t. rw t (omega arith)) (λ t. rw t (omega arith)))
+
+      part : k ≤ length (mends g a m) → take k (mends g a (suc m)) ≡ take k (mends g a m)
+      part u = unfold mends in take-append-le k (mends g a m) _ u
+
+      go : Dec (pendingLanes g a (suc m) ≤ k) → (n : ℕ) × (n ≤ m) × (take k (mends g a m) ≡ mends g a n) × (pendingLanes g a m ≤ k → n ≡ m)
+          → (n : ℕ) × (n ≤ suc m) × (take k (mends g a (suc m)) ≡ mends g a n) × (pendingLanes g a (suc m) ≤ k → n ≡ suc m)
+      go (yes u) r = (suc m, omega arith, take-all k (mends g a (suc m)) (rw (length-mends (suc m)) u), λ _. refl)
+      go (no u) r = (r .0, omega (arith, r .1), part (rw (length-mends m) (omega (arith, fewer))) ∙ r .2, λ v. absurd (u v))
+
+  pub mends-more : (n : ℕ) → pending g a n ≡ true → putAll g (mends g a (suc n)) a ≡ stored g (mendStore g a n) (putAll g (mends g a n) a)
+  unfolding mends
+  mends-more n e = rw e (putAll-one g (mends g a n) (mendStore g a n) a)
+
+  pub mends-same : (n : ℕ) → pending g a n ≡ false → mends g a (suc n) ≡ mends g a n
+  unfolding mends
+  mends-same n e = rw e (append-nil (mends g a n))
+
+  -- what holds of the arena holds of it with any of its lanes mended, where each store keeps it
+  mend-keeps : (P : List ℕ → Type 0) → P a → (m : ℕ)
+      → ((n : ℕ) → n < m → pending g a n ≡ true → P (putAll g (mends g a n) a) → P (stored g (mendStore g a n) (putAll g (mends g a n) a)))
+      → P (putAll g (mends g a m) a)
+  mend-keeps P p zero f = unfold mends putAll in p
+  mend-keeps P p (suc m) f =
+      let ih = mend-keeps P p m (λ n u. f n (omega arith)) in
+      by-bool (pending g a m) (P (putAll g (mends g a (suc m)) a)) (λ t. rw (mends-more m t) (f m (omega arith) t ih)) (λ t. rw (mends-same m t) ih)
+
+-- ---- an arena whose lanes are readable, mended for the lanes below n
+
+module _ (g : Layout) (ok : LayoutOk g) (a : List ℕ) (r : Arena g a) (f : (l : ℕ) → l < g .N → laneReadable g a l ≡ true) where
+  part : (l : ℕ) → l < g .N → Readable g a l
+  part l u = readable-of g a l (f l u)
+
+  pub mends-arena : (n : ℕ) → Arena g (putAll g (mends g a n) a)
+  mends-arena n = putAll-arena g ok (mends g a n) a r
+
+  -- each store can be made
+  pub mends-fits : (n : ℕ) → n ≤ g .N → Each (Fits g) (mends g a n)
+  unfolding mends
+  mends-fits zero u st m = absurd (List·Memᴰ·not-nil m)
+  mends-fits (suc n) u st m = go (List·Memᴰ·append-cases (mends g a n) m) (λ x. mends-fits n (omega arith) st x)
+    where
+      p : Readable g a n
+      p = part n u
+
+      last : (st ≡ mendStore g a n) ⊎ List·Memᴰ st [] → Fits g st
+      last (inl e) = rw e (map-fits g ok a r (logged g a n 0) (logged g a n 2) (p .sector) (p .new))
+      last (inr y) = absurd (List·Memᴰ·not-nil y)
+
+      one : (t : Bool) → List·Memᴰ st (cond t (mendStore g a n ∷ []) []) → Fits g st
+      one true x = last (List·Memᴰ·cases-cons x)
+      one false x = absurd (List·Memᴰ·not-nil x)
+
+      go : List·Memᴰ st (mends g a n) ⊎ List·Memᴰ st (cond (pending g a n) (mendStore g a n ∷ []) []) → (List·Memᴰ st (mends g a n) → Fits g st)
+          → Fits g st
+      go (inl x) ih = ih x
+      go (inr x) ih = one (pending g a n) x
+
+  -- no word of a log changes
+  pub mends-flog : (n : ℕ) → n ≤ g .N → (l h k : ℕ) → l < g .N → h < 2 → k < 4
+      → flogWord g (putAll g (mends g a n) a) l h k ≡ flogWord g a l h k
+  mends-flog n u l h k v c d = mend-keeps g a (λ x. flogWord g x l h k ≡ flogWord g a l h k) refl n
+      (λ m w _ e. let p = part m (omega arith) in
+      map-flog g ok _ (mends-arena m) (logged g a m 0) (logged g a m 2) (p .sector) (p .new) l h k v c d ∙ e)
+
+  pub mends-newer : (n : ℕ) → n ≤ g .N → (l : ℕ) → l < g .N → newerHalf g (putAll g (mends g a n) a) l ≡ newerHalf g a l
+  mends-newer n u l v =
+      same-newer g a _ l 0 (omega arith) (mends-flog n u l 1 3 v (omega arith) (omega arith)) (mends-flog n u l 0 3 v (omega arith) (omega arith))
+
+  pub mends-logged : (n : ℕ) → n ≤ g .N → (l k : ℕ) → l < g .N → k < 4 → logged g (putAll g (mends g a n) a) l k ≡ logged g a l k
+  mends-logged n u l k v d = rw (mends-newer n u l v) (mends-flog n u l (newerHalf g a l) k v (part l v .newer) d)
+
+  -- nor the word of a sector that no pending lane below n names
+  pub mends-map : (n : ℕ) → n ≤ g .N → (s : ℕ) → s < g .E → ((j : ℕ) → j < n → pending g a j ≡ true → logged g a j 0 ≢ s)
+      → mapBlock g (putAll g (mends g a n) a) s ≡ mapBlock g a s
+  mends-map n u s v away = mend-keeps g a (λ x. mapBlock g x s ≡ mapBlock g a s) refl n
+      (λ m w t e. let p = part m (omega arith) in
+      map-other g ok _ (mends-arena m) (logged g a m 0) (logged g a m 2) (p .sector) (p .new) s v (λ q. away m w t (sym q)) ∙ e)
+
+  -- blocks in range stay so
+  pub mends-in : (n : ℕ) → n ≤ g .N → ((s : ℕ) → s < g .E → mapBlock g a s < g .I) → (s : ℕ) → s < g .E
+      → mapBlock g (putAll g (mends g a n) a) s < g .I
+  mends-in n u all = mend-keeps g a (λ x. (s : ℕ) → s < g .E → mapBlock g x s < g .I) all n
+      (λ m w _ e. let p = part m (omega arith) in
+      map-keeps g ok _ (mends-arena m) (logged g a m 0) (logged g a m 2) (p .sector) (p .new) e)
+
+  -- each store trades old for new in the map, as the free blocks trade new for old
+  pub spare-part : ((l j : ℕ) → l < g .N → j < l → pending g a l ≡ true → pending g a j ≡ true → logged g a l 0 ≢ logged g a j 0)
+      → (b n : ℕ) → n ≤ g .N
+      → count (g .E) (mapBlock g (putAll g (mends g a n) a)) b + count n (freeOf g a) b
+      ≡ count (g .E) (mapBlock g a) b + count n (spareOf g a) b
+  spare-part apart b zero u = unfold mends putAll count in refl
+  spare-part apart b (suc n) u = go (pending g a n) refl (spare-part apart b n (omega arith))
+    where
+      A : List ℕ
+      A = putAll g (mends g a n) a
+
+      spare : (t : Bool) → pending g a n ≡ t → spareOf g a n ≡ cond t (logged g a n 2) (freeOf g a n)
+      spare t e = unfold spareOf in rw e
+
+      p : Readable g a n
+      p = part n u
+
+      go : (t : Bool) → pending g a n ≡ t
+          → count (g .E) (mapBlock g (putAll g (mends g a n) a)) b + count n (freeOf g a) b ≡ count (g .E) (mapBlock g a) b + count n (spareOf g a) b
+          → count (g .E) (mapBlock g (putAll g (mends g a (suc n)) a)) b + count (suc n) (freeOf g a) b
+          ≡ count (g .E) (mapBlock g a) b + count (suc n) (spareOf g a) b
+      go false e ih =
+          rw (count-suc n (freeOf g a) b, count-suc n (spareOf g a) b, spare false e, mends-same g a n e) (omega arith)
+      go true e ih =
+          let was : mapBlock g A (logged g a n 0) ≡ freeOf g a n =
+          mends-map n (omega arith) (logged g a n 0) (p .sector) (λ j v t q. apart n j u v e t (sym q))
+          ∙ pending-old g a n e in
+          let c = count-change (g .E) (mapBlock g A) (mapBlock g (stored g (mendStore g a n) A)) b (logged g a n 0) (p .sector)
+          (λ s v d. map-other g ok A (mends-arena n) (logged g a n 0) (logged g a n 2) (p .sector) (p .new) s v d) in
+          let here = map-here g ok A (mends-arena n) (logged g a n 0) (logged g a n 2) (p .sector) (p .new) in
+          rw (count-suc n (freeOf g a) b, count-suc n (spareOf g a) b, spare true e, mends-more g a n e)
+          (omega (arith, c, ap (hit b) was, ap (hit b) here))

@@ -1,0 +1,125 @@
+-- The claims about making and opening.
+use mathlib.Core.Path.{_≡_}
+use mathlib.Core.Logic.{_≢_}
+use mathlib.Core.List.{List, [], _∷_, _++_}
+use Prim.Native.Nat.{ℕ, _+_, _-_, _*_, _≤_, _<_}
+use lib.ListN.{length, getD, take, drop, replicate}
+use Rattle.format.specs.MapWord.{flagsOf, readingOf}
+use Rattle.layout.specs.Figures.{madeFigures}
+use Rattle.machine.specs.Rules.{First}
+use Rattle.machine.specs.Lane.{idleLane}
+use Rattle.machine.specs.Handle.{noHandle, laneAt}
+use Rattle.machine.specs.Flog.{mapWord}
+use Rattle.machine.specs.Making.{Order, makeOf}
+use Rattle.machine.specs.Opening.{figuresIn, layoutIn, mends, pendingLanes, openNumber, openOf, cutOpenOf, Opening}
+use Rattle.machine.specs.Valid.{Small, Valid, openRow, makeRow}
+
+-- opening answers 0 exactly if the arena is valid and the work buffer has I bytes or more;
+-- each of 1 to 8 is given exactly when its condition holds and none before it in the row does
+pub record OpeningAnswers (a work : List ℕ) : Type 0 where
+  pub row : First (openRow a (length work)) ((openOf a work) .number)
+  pub accepts : (openOf a work) .number ≡ 0 → Valid a × ((layoutIn a) .I ≤ length work)
+  pub only : Valid a → (layoutIn a) .I ≤ length work → (openOf a work) .number ≡ 0
+
+-- a refused opening leaves the arena, gives a handle of zeroes and counts nothing
+pub record RefusedOpening (a work : List ℕ) (o : Opening) : Type 0 where
+  pub arena : o .arena ≡ a
+  pub handle : o .handle ≡ noHandle
+  pub mended : o .mended ≡ 0
+
+-- what an opening, cut or not, leaves of the work buffer
+pub record WorkAfter (a work : List ℕ) (o : Opening) : Type 0 where
+  -- alone on 1 to 5
+  pub alone : 1 ≤ o .number → o .number ≤ 5 → o .work ≡ work
+  -- else its first I bytes are 0 and the rest unchanged
+  pub cleared : (o .number ≡ 0 → ⊥) → 6 ≤ o .number → o .work ≡ replicate ((layoutIn a) .I) 0 ++ drop ((layoutIn a) .I) work
+  pub opened : o .number ≡ 0 → o .work ≡ replicate ((layoutIn a) .I) 0 ++ drop ((layoutIn a) .I) work
+  pub size : length (o .work) ≡ length work
+
+-- one cut opening: its work buffer, and how many stores it may make
+pub record Cut : Type 0 where
+  pub work : List ℕ
+  pub stores : ℕ
+
+-- an arena after a list of cut openings
+unfoldable pub afterCuts : List Cut → List ℕ → List ℕ
+afterCuts [] a = a
+afterCuts (c ∷ cs) a = afterCuts cs ((cutOpenOf a (c .work) (c .stores)) .arena)
+
+-- an opening after any cut openings, refused ones included, answers and ends as without them
+pub record CutsLeaveNoTrace (a work : List ℕ) (cuts : List Cut) : Type 0 where
+  pub number : (openOf (afterCuts cuts a) work) .number ≡ (openOf a work) .number
+  pub arena : (openOf a work) .number ≡ 0 → (openOf (afterCuts cuts a) work) .arena ≡ (openOf a work) .arena
+  pub handle : (openOf (afterCuts cuts a) work) .handle ≡ (openOf a work) .handle
+  pub work-buffer : (openOf (afterCuts cuts a) work) .work ≡ (openOf a work) .work
+
+-- a cut opening is refused as opening is, counts alike and leaves the work buffer alike
+pub record CutAnswers (a work : List ℕ) (k : ℕ) : Type 0 where
+  pub number : (cutOpenOf a work k) .number ≡ (openOf a work) .number
+  pub mended : (cutOpenOf a work k) .mended ≡ (openOf a work) .mended
+  pub work-buffer : (cutOpenOf a work k) .work ≡ (openOf a work) .work
+  pub handle : (cutOpenOf a work k) .handle ≡ noHandle
+  -- told a number that is at least the pending lanes, it leaves the arena that opening leaves
+  pub whole : (openOf a work) .mended ≤ k → (cutOpenOf a work k) .arena ≡ (openOf a work) .arena
+
+-- the count is the number of pending lanes as found, and of stores
+pub record CountIsPending (a work : List ℕ) : Type 0 where
+  pub pending : (openOf a work) .number ≡ 0 → (openOf a work) .mended ≡ pendingLanes (layoutIn a) a ((layoutIn a) .N)
+  pub stores : (openOf a work) .number ≡ 0 → (openOf a work) .mended ≡ length (mends (layoutIn a) a ((layoutIn a) .N))
+
+-- opening an opened arena changes nothing and mends none
+pub record OpenedAgain (a work again : List ℕ) : Type 0 where
+  pub number : (openOf ((openOf a work) .arena) again) .number ≡ 0
+  pub mended : (openOf ((openOf a work) .arena) again) .mended ≡ 0
+  pub arena : (openOf ((openOf a work) .arena) again) .arena ≡ (openOf a work) .arena
+  pub handle : (openOf ((openOf a work) .arena) again) .handle ≡ (openOf a work) .handle
+
+-- all of it, for any bytes lent as an arena and any work buffers
+pub record OpeningClaim : Type 0 where
+  pub answers : (a work : List ℕ) → Small a → OpeningAnswers a work
+  pub refused : (a work : List ℕ) → (openOf a work) .number ≢ 0 → RefusedOpening a work (openOf a work)
+  pub refused-cut : (a work : List ℕ) (k : ℕ) → (openOf a work) .number ≢ 0 → RefusedOpening a work (cutOpenOf a work k)
+  pub work : (a work : List ℕ) → WorkAfter a work (openOf a work)
+  pub cut : (a work : List ℕ) (k : ℕ) → CutAnswers a work k
+  pub cuts : (a work : List ℕ) (cuts : List Cut) → Small a → CutsLeaveNoTrace a work cuts
+  pub count : (a work : List ℕ) → CountIsPending a work
+  pub again : (a work again : List ℕ) → Small a → (openOf a work) .number ≡ 0 → (layoutIn a) .I ≤ length again → OpenedAgain a work again
+
+-- what making is lent: bytes, and numbers of 32 bits
+pub record Lent (o : Order) : Type 0 where
+  pub first : Small (o .first)
+  pub second : Small (o .second)
+  pub size : o .size < 4294967296
+  pub sectors : o .sectors < 4294967296
+  pub lanes : o .lanes < 4294967296
+
+-- what holds of a made arena
+pub record MadeArena (o : Order) (a : List ℕ) : Type 0 where
+  pub valid : Valid ((makeOf o a) .arena)
+  pub figures : figuresIn ((makeOf o a) .arena) ≡ madeFigures (o .size) (o .sectors) (o .lanes)
+  pub size : length ((makeOf o a) .arena) ≡ length a
+  -- both info blocks are the same bytes
+  pub copy : take 4096 ((makeOf o a) .arena) ≡ drop (length a - 4096) ((makeOf o a) .arena)
+  -- it opens, with none mended and no byte changed
+  pub number : (work : List ℕ) → o .sectors + o .lanes ≤ length work → (openOf ((makeOf o a) .arena) work) .number ≡ 0
+  pub mended : (work : List ℕ) → (openOf ((makeOf o a) .arena) work) .mended ≡ 0
+  pub arena : (work : List ℕ) → (openOf ((makeOf o a) .arena) work) .arena ≡ (makeOf o a) .arena
+  -- lane l's free block is E + l; its second half and sequence 2 come next
+  pub lanes : (work : List ℕ) (l : ℕ) → o .sectors + o .lanes ≤ length work → l < o .lanes
+      → laneAt ((openOf ((makeOf o a) .arena) work) .handle .lanes) l ≡ idleLane (o .sectors + l) 1 2
+  -- every sector's map word is zero, and so reads zeroes
+  pub map : (s : ℕ) → s < o .sectors → mapWord (layoutIn ((makeOf o a) .arena)) ((makeOf o a) .arena) s ≡ 0
+  pub zeroes : (s : ℕ) → s < o .sectors → readingOf (flagsOf (mapWord (layoutIn ((makeOf o a) .arena)) ((makeOf o a) .arena) s)) ≡ 0
+  -- data blocks are not touched
+  pub kept : (j : ℕ) → 4096 ≤ j → j < 4096 + (o .sectors + o .lanes) * o .size → getD ((makeOf o a) .arena) j 0 ≡ getD a j 0
+
+-- the smallest arena: one sector of 512 bytes and one lane
+abbrev pub smallest : Order
+smallest = record { size = 512; sectors = 1; lanes = 1; first = replicate 16 0; second = replicate 16 0 }
+
+-- making answers by its row; a refusal changes nothing; an accepted one gives a made arena; and there is one
+pub record MakingClaim : Type 0 where
+  pub row : (o : Order) (a : List ℕ) → First (makeRow o (length a)) ((makeOf o a) .number)
+  pub refused : (o : Order) (a : List ℕ) → (makeOf o a) .number ≢ 0 → (makeOf o a) .arena ≡ a
+  pub made : (o : Order) (a : List ℕ) → Small a → Lent o → (makeOf o a) .number ≡ 0 → MadeArena o a
+  pub one : (makeOf smallest (replicate 20480 0)) .number ≡ 0

@@ -1,0 +1,10 @@
+pub mod Rules
+pub mod Answer
+pub mod Lane
+pub mod Handle
+pub mod Stores
+pub mod Flog
+pub mod Making
+pub mod Opening
+pub mod Valid
+pub mod Claims

@@ -1,0 +1,12 @@
+// The claims about the calls, each the contract of a function that does nothing.
+ghost use Rattle.machine.specs.Claims.{MakingClaim, OpeningClaim};
+
+// Making answers by its row of the table, changes nothing where it refuses, and gives a valid arena where it accepts.
+pub fn making()
+    ensures making { λ _. ⌜ MakingClaim ⌝ }
+{}
+
+// Opening answers by its row of the table, a refusal changes nothing, and openings that are cut leave no trace.
+pub fn opening()
+    ensures opening { λ _. ⌜ OpeningClaim ⌝ }
+{}

@@ -1,0 +1,171 @@
+-- Laws of making: a fresh lane word by word, the flog lane by lane, the tail part by part, and the order of the refusals, outcome by outcome.
+use mathlib.Core.Path.{_≡_, refl, sym, ap, _∙_}
+use mathlib.Core.Bool.{Bool, true, false, not, _&&_}
+use mathlib.Core.List.{List, _∷_, _++_, append-nil}
+use Prim.Native.Nat.{ℕ, zero, suc, _+_, _-_, _*_, _/_, _≤_, _<_}
+use native.Mathlib.Omega.{arith}
+use native.Mathlib.Numerals.{add-one}
+use lib.Dec.{eqb}
+use lib.ListN.{length, replicate, length-append, length-replicate}
+use borrow.Author.Tests.{eq-eqb, ne-eqb, eqb-true}
+use Rattle.words.specs.Word.{putWord, putWords}
+use Rattle.words.proofs.Runs.{putWords-append}
+use Rattle.layout.specs.Figures.{lengthAllowed, sizesAllowed, madeLength, madeFigures, Allowed}
+use Rattle.layout.specs.Place.{layoutOf}
+use Rattle.layout.specs.declared.Figures.{Figures}
+use Rattle.machine.specs.Making.{Order, makeNumber, freshLane, freshFlog, tailWords, dataEnd, madeArena, Made, makeOf}
+use Rattle.format.proofs.Tests.{and-elim}
+use Rattle.layout.proofs.Allowed.{made-allowed, layout-ok, layout-exact}
+use Rattle.machine.proofs.Rows.{passed}
+use Rattle.machine.proofs.Rule16.{length-most}
+use Rattle.layout.specs.Fit.{Fit}
+
+-- four words and a run, one store after the other
+pub put-four : (a : List ℕ) (i p q r s : ℕ) (ws : List ℕ)
+    → putWords (putWord (putWord (putWord (putWord a i p) (i + 1) q) (i + 2) r) (i + 3) s) (i + 4) ws ≡ putWords a i (p ∷ q ∷ r ∷ s ∷ ws)
+unfolding putWords
+put-four a i p q r s ws =
+    let e1 : i + 1 ≡ suc i = omega arith in
+    let e2 : i + 2 ≡ suc (suc i) = omega arith in
+    let e3 : i + 3 ≡ suc (suc (suc i)) = omega arith in
+    let e4 : i + 4 ≡ suc (suc (suc (suc i))) = omega arith in
+    rw (e1, e2, e3, e4)
+
+pub length-flog : (s i n : ℕ) → length (freshFlog s i n) ≡ 16 * n
+unfolding freshFlog
+length-flog s i zero = refl
+length-flog s i (suc n) =
+    length-append (freshLane s i) (freshFlog s (suc i) n) ∙ omega (arith, length-flog s (suc i) n)
+
+-- one lane more at the end
+flog-snoc : (s i n : ℕ) → freshFlog s i (suc n) ≡ freshFlog s i n ++ freshLane s (i + n)
+unfolding freshFlog
+flog-snoc s i zero = let e : i + 0 ≡ i = omega arith in rw (e, append-nil)
+flog-snoc s i (suc n) =
+    let e : suc i + n ≡ i + suc n = omega arith in
+    ap (λ (x : List ℕ). freshLane s i ++ x) (flog-snoc s (suc i) n ∙ ap (λ (k : ℕ). freshFlog s (suc i) n ++ freshLane s k) e)
+
+pub put-flog-more : (a : List ℕ) (i s l : ℕ)
+    → putWords (putWords a i (freshFlog s 0 l)) (i + 16 * l) (freshLane s l) ≡ putWords a i (freshFlog s 0 (l + 1))
+put-flog-more a i s l =
+    let e : freshFlog s 0 l ++ freshLane s (0 + l) ≡ freshFlog s 0 (l + 1) = rw add-one (sym (flog-snoc s 0 l)) in
+    let z : 0 + l ≡ l = omega arith in
+    ap (λ (n : ℕ). putWords (putWords a i (freshFlog s 0 l)) (i + n) (freshLane s l)) (sym (length-flog s 0 l))
+    ∙ sym (putWords-append (freshFlog s 0 l) (freshLane s l) a i)
+    ∙ ap (λ (x : List ℕ). putWords a i x) (ap (λ (k : ℕ). freshFlog s 0 l ++ freshLane s k) (sym z) ∙ e)
+
+-- four runs, one after the other
+put-parts : (a xs ys zs ws : List ℕ) (i j k m : ℕ) → i + length xs ≡ j → j + length ys ≡ k → k + length zs ≡ m
+    → putWords (putWords (putWords (putWords a i xs) j ys) k zs) m ws ≡ putWords a i (xs ++ (ys ++ (zs ++ ws)))
+put-parts a xs ys zs ws i j k m p q r =
+    sym (putWords-append xs (ys ++ (zs ++ ws)) a i ∙ rw (p, putWords-append ys (zs ++ ws), q, putWords-append zs ws, r))
+
+-- what fits leaves room for every part
+pub record Room (f : Figures) (n : ℕ) : Type 0 where
+  pub data-end : f .dataoff / 4 + f .blocks * (f .internal / 4) ≤ f .flogoff / 4
+  pub flog-end : f .flogoff / 4 + 16 * f .lanes ≤ f .copyoff / 4
+  pub copy-end : 4 * (f .copyoff / 4 + 1024) ≤ n
+  pub starts : f .copyoff / 4 < 4194304
+  pub words : f .sectors + f .lanes < 4294967296
+
+pub room-of : (f : Figures) (n : ℕ) → Fit f n → Room f n
+unfolding layoutOf
+room-of f n t =
+    let o = t .ok in
+    let r = t .room in
+    let s = t .starts in
+    record { data-end = omega arith; flog-end = omega arith; copy-end = omega arith; starts = omega arith; words = omega arith }
+
+-- the parts of the tail, stored one after the other
+pub put-tail-parts : (f : Figures) (n : ℕ) (a info : List ℕ) → Room f n
+    → putWords (putWords (putWords
+    (putWords a (f .dataoff / 4 + f .blocks * (f .internal / 4)) (replicate (f .flogoff / 4 - (f .dataoff / 4 + f .blocks * (f .internal / 4))) 0))
+    (f .flogoff / 4) (freshFlog (f .sectors) 0 (f .lanes)))
+    (f .flogoff / 4 + 16 * f .lanes) (replicate (f .copyoff / 4 - (f .flogoff / 4 + 16 * f .lanes)) 0))
+    (f .copyoff / 4) info
+    ≡ putWords a (dataEnd (layoutOf f)) (tailWords (layoutOf f) info)
+unfolding layoutOf tailWords
+put-tail-parts f n a info r =
+    let d = r .data-end in
+    let e = r .flog-end in
+    put-parts a _ _ _ info _ _ _ _ (rw length-replicate (omega arith)) (rw length-flog refl) (rw length-replicate (omega arith))
+
+-- the refusals of making, outcome by outcome
+module _ (o : Order) (n : ℕ) where
+  pub make-3 : sizesAllowed (o .size) (o .sectors) (o .lanes) ≡ false → 3 ≡ makeNumber o n
+  unfolding makeNumber
+  make-3 p = rw p
+
+  module _ (sizes : sizesAllowed (o .size) (o .sectors) (o .lanes) ≡ true) where
+    pub make-1 : lengthAllowed n ≡ false → 1 ≡ makeNumber o n
+    unfolding makeNumber
+    make-1 p = rw (sizes, p)
+
+    module _ (allowed : lengthAllowed n ≡ true) where
+      pub make-1-made : (n ≡ madeLength (o .size) (o .sectors) (o .lanes) → ⊥) → 1 ≡ makeNumber o n
+      unfolding makeNumber
+      make-1-made p = rw (sizes, allowed, ne-eqb _ _ p)
+
+      module _ (made : n ≡ madeLength (o .size) (o .sectors) (o .lanes)) where
+        pub make-10-first : (length (o .first) ≡ 16 → ⊥) → 10 ≡ makeNumber o n
+        unfolding makeNumber
+        make-10-first p = rw (sizes, allowed, eq-eqb _ _ made, ne-eqb _ _ p)
+
+        pub make-10-second : length (o .first) ≡ 16 → (length (o .second) ≡ 16 → ⊥) → 10 ≡ makeNumber o n
+        unfolding makeNumber
+        make-10-second p q = rw (sizes, allowed, eq-eqb _ _ made, eq-eqb _ _ p, ne-eqb _ _ q)
+
+        pub make-0 : length (o .first) ≡ 16 → length (o .second) ≡ 16 → 0 ≡ makeNumber o n
+        unfolding makeNumber
+        make-0 p q = rw (sizes, allowed, eq-eqb _ _ made, eq-eqb _ _ p, eq-eqb _ _ q)
+
+-- what making that is not refused gives
+pub record Passed (o : Order) (n : ℕ) : Type 0 where
+  pub sizes : sizesAllowed (o .size) (o .sectors) (o .lanes) ≡ true
+  pub most : n ≤ 16777216
+  pub made : n ≡ madeLength (o .size) (o .sectors) (o .lanes)
+  pub first : length (o .first) ≡ 16
+  pub second : length (o .second) ≡ 16
+
+not-not : (t : Bool) → not t ≡ false → t ≡ true
+not-not true e = refl
+not-not false e = sym e
+
+pub make-passed : (o : Order) (n : ℕ) → makeNumber o n ≡ 0 → Passed o n
+unfolding makeNumber
+make-passed o n e =
+    let s = passed (not (sizesAllowed (o .size) (o .sectors) (o .lanes))) 2 _ e in
+    let l = passed (not (lengthAllowed n && eqb n (madeLength (o .size) (o .sectors) (o .lanes)))) 0 _ (s .1) in
+    let b = passed (not (eqb (length (o .first)) 16 && eqb (length (o .second)) 16)) 9 _ (l .1) in
+    let m = and-elim (lengthAllowed n) _ (not-not _ (l .0)) in
+    let i = and-elim (eqb (length (o .first)) 16) _ (not-not _ (b .0)) in
+    record {
+      sizes = not-not _ (s .0);
+      most = length-most n (m .0);
+      made = eqb-true _ _ (m .1);
+      first = eqb-true _ _ (i .0);
+      second = eqb-true _ _ (i .1);
+    }
+
+-- and its figures fit
+pub made-fit : (o : Order) (n : ℕ) → Passed o n → Fit (madeFigures (o .size) (o .sectors) (o .lanes)) n
+made-fit o n p =
+    let f = madeFigures (o .size) (o .sectors) (o .lanes) in
+    let a : Allowed f n = rw (p .made) (made-allowed (o .size) (o .sectors) (o .lanes) (p .sizes)) in
+    let c = a .copy-start in
+    let m = p .most in
+    let x = layout-exact f n a in
+    record { ok = layout-ok f n a m; few = a .few-lanes; starts = omega arith; room = omega arith; whole = omega arith }
+
+-- what making gives, refused and not
+module _ (o : Order) (n : ℕ) (a : List ℕ) (e : n ≡ makeNumber o (length a)) where
+  pub make-refused : eqb n 0 ≡ false → _≡_ {A = Made} (record { number = n; arena = a }) (makeOf o a)
+  unfolding makeOf
+  make-refused p = rw (← e, p)
+
+  pub make-done : eqb n 0 ≡ true → _≡_ {A = Made} (record { number = n; arena = madeArena o a }) (makeOf o a)
+  unfolding makeOf
+  make-done p = rw (← e, p)
+
+  pub done-passed : eqb n 0 ≡ true → Passed o (length a)
+  done-passed p = make-passed o (length a) (sym e ∙ eqb-true n 0 p)

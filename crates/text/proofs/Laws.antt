@@ -1,0 +1,126 @@
+-- Laws of a text put into a buffer: two pieces that follow one another are one piece, so each function's text is the chain of its pieces.
+use mathlib.Core.Path.{_≡_, refl, sym, ap, _∙_}
+use mathlib.Core.List.{List, [], _∷_, _++_, map, append-assoc}
+use Prim.Native.Nat.{ℕ, zero, suc, _+_, _-_, _/_, _%_, _≤_, _<_}
+use native.Mathlib.Nat.{add-zero, zero-add, le-of-lt}
+use native.Mathlib.Numerals.{add-one}
+use native.Mathlib.Omega.{arith}
+use lib.ListN.{length, getD, set, take, drop, length-append}
+use lib.Seq.{sets, sets-eq, length-sets, take-suc, take-length, length-take-le}
+use borrow.Author.Tests.{lt-ltb, le-ltb}
+use Rattle.machine.specs.Handle.{laneAt}
+use Rattle.machine.specs.declared.lane.Lane.{Lane}
+use Rattle.machine.specs.declared.handle.Handle.{Handle}
+use Rattle.text.specs.Put.{Put}
+use Rattle.text.specs.Text as texts
+use Rattle.text.specs.Text.{digits, decimal, newline, refusedText, headText, laneText, lanesText, openedText}
+
+sets-append : (s t l : List ℕ) (at : ℕ) → sets l at (s ++ t) ≡ sets (sets l at s) (at + length s) t
+sets-append [] t l at = rw add-zero
+sets-append (x ∷ s) t l at =
+    let e : suc at + length s ≡ at + suc (length s) = omega arith in
+    sets-append s t (set l at x) (suc at) ∙ ap (λ (n : ℕ). sets (sets (set l at x) (suc at) s) n t) e
+
+-- a piece and the next one
+pub put-append : {l m n s t : List ℕ} {at next last : ℕ} → Put l m at next s → Put m n next last t → Put l n at last (s ++ t)
+put-append {l} {m} {n} {s} {t} {at} {next} {last} p q = record {
+  bytes = q .bytes ∙ rw (p .bytes, p .place) (sym (sets-append s t l at));
+  place = omega (arith, length-append s t, p .place, q .place);
+}
+
+pub put-length : {l m t : List ℕ} {at next : ℕ} → Put l m at next t → length m ≡ length l
+put-length {l} {m} {t} {at} p = ap length (p .bytes) ∙ length-sets l at t
+
+-- no text, and one byte
+put-none : (l : List ℕ) (at : ℕ) → Put l l at at []
+put-none l at = record { bytes = refl; place = omega arith }
+
+put-byte : (l : List ℕ) (at b : ℕ) → Put l (set l at b) at (at + 1) (b ∷ [])
+put-byte l at b = record { bytes = refl; place = refl }
+
+-- one byte more of a text
+pub sets-more : (l text : List ℕ) (at i : ℕ) → i < length text
+    → set (sets l at (take i text)) (at + i) (getD text i 0) ≡ sets l at (take (i + 1) text)
+sets-more l text at i h =
+    rw (add-one i, take-suc text i 0 h, sets-append (take i text) (getD text i 0 ∷ []) l at, length-take-le i text (le-of-lt h))
+
+pub put-all : {l m text : List ℕ} {at i : ℕ} → m ≡ sets l at (take i text) → i ≤ length text → length text ≤ i → Put l m at (at + i) text
+put-all {l} {m} {text} {at} {i} e h k =
+    let n : i ≡ length text = omega arith in
+    record { bytes = e ∙ rw (n, take-length text); place = omega arith }
+
+-- the digits of a number
+pub digits-none : (l : List ℕ) (at n most : ℕ) → most ≡ 0 → Put l l at at (digits most n)
+unfolding digits
+digits-none l at n zero e = put-none l at
+digits-none l at n (suc most) e = absurd (omega arith)
+
+pub digits-one : (l : List ℕ) (at n most : ℕ) → (most ≡ 0 → ⊥) → n < 10 → Put l (set l at (48 + n % 10)) at (at + 1) (digits most n)
+unfolding digits
+digits-one l at n zero h s = absurd (h refl)
+digits-one l at n (suc most) h s = rw (lt-ltb _ _ s) (put-byte l at (48 + n % 10))
+
+pub digits-more : {l m : List ℕ} {at last : ℕ} (n most : ℕ) → (most ≡ 0 → ⊥) → 10 ≤ n → Put l m at last (digits (most - 1) (n / 10))
+    → Put l (set m last (48 + n % 10)) at (last + 1) (digits most n)
+unfolding digits
+digits-more n zero h s p = absurd (h refl)
+digits-more {l} {m} {at} {last} n (suc most) h s p =
+    let e : suc most - 1 ≡ most = omega arith in
+    rw (le-ltb _ _ s) (put-append (rw e at p) (put-byte m last (48 + n % 10)))
+
+-- a name and a number, and a line of them
+abbrev named : List ℕ → ℕ → List ℕ
+named name n = name ++ decimal n
+
+abbrev line : List ℕ → ℕ → List ℕ
+line name n = named name n ++ newline
+
+-- the texts as their pieces are put
+pub refused-pieces : (n : ℕ) → line texts.refused n ≡ refusedText n
+unfolding refusedText
+refused-pieces n = simp append-assoc
+
+pub head-pieces : (a b c d : ℕ) → line texts.sectorBytes a ++ line texts.sectors b ++ line texts.lanes c ++ line texts.mendedWord d ≡ headText a b c d
+unfolding headText
+head-pieces a b c d = four texts.sectorBytes (decimal a) texts.sectors (decimal b) texts.lanes (decimal c) texts.mendedWord (decimal d) newline
+  where
+    four : (a x b y c z d w n : List ℕ) → (a ++ x ++ n) ++ (b ++ y ++ n) ++ (c ++ z ++ n) ++ (d ++ w ++ n)
+        ≡ a ++ (x ++ (n ++ (b ++ (y ++ (n ++ (c ++ (z ++ (n ++ (d ++ (w ++ n))))))))))
+    four a x b y c z d w n = simp append-assoc
+
+pub lane-pieces : (l : ℕ) (r : Lane) → named texts.lane l ++ named texts.free (r .block .0) ++ line texts.next (r .sequence .0) ≡ laneText l r
+unfolding laneText
+lane-pieces l r = three texts.lane (decimal l) texts.free (decimal (r .block .0)) texts.next (decimal (r .sequence .0)) newline
+  where
+    three : (a x b y c z n : List ℕ) → (a ++ x) ++ (b ++ y) ++ (c ++ z ++ n) ≡ a ++ (x ++ (b ++ (y ++ (c ++ (z ++ n)))))
+    three a x b y c z n = simp append-assoc
+
+pub opened-pieces : (h : Handle) (n : ℕ)
+    → headText (h .figures .size) (h .figures .sectors) (h .figures .lanes) n ++ lanesText (h .lanes) (h .figures .lanes) ++ (texts.opened ++ newline)
+    ≡ openedText h n
+unfolding openedText
+opened-pieces h n = simp append-assoc
+
+-- the lines of the lanes, none and one more
+pub lanes-none : (l : List ℕ) (at : ℕ) (rs : List Lane) → Put l l at at (lanesText rs 0)
+unfolding lanesText
+lanes-none l at rs = put-none l at
+
+pub lanes-more : {l m n : List ℕ} {at next last : ℕ} (rs : List Lane) (k : ℕ) → Put l m at next (lanesText rs k)
+    → Put m n next last (laneText k (laneAt rs k)) → Put l n at last (lanesText rs (k + 1))
+unfolding lanesText
+lanes-more rs k p q = rw (add-one k) (put-append p q)
+
+-- a text from place 0 on
+pub whole : {l m text : List ℕ} {size : ℕ} → Put l m 0 size text → size ≤ length l → (size ≡ length text) × (m ≡ text ++ drop (length text) l)
+whole {l} {m} {text} {size} p h =
+    let e : size ≡ length text = p .place ∙ zero-add _ in
+    (e, p .bytes ∙ sets-eq text l 0 (omega arith) ∙ rw zero-add)
+
+-- an array field's length, from what owning the struct tells
+length-map : {A B : Type 0} (f : A → B) (l : List A) → length (map f l) ≡ length l
+length-map f [] = refl
+length-map f (x ∷ l) = ap suc (length-map f l)
+
+pub unmapped : {A B : Type 0} (f : A → B) (l : List A) (n : ℕ) → length (map f l) ≡ n → length l ≡ n
+unmapped f l n e = sym (length-map f l) ∙ e

@@ -1,0 +1,117 @@
+"""The arenas that the report is run on, by name, each built by the model.
+
+Run as a program it writes every arena and the model's report of it to tests/arenas/.
+"""
+import pathlib
+import struct
+
+import model
+
+HERE = pathlib.Path(__file__).resolve().parent / "arenas"
+
+
+def fresh():
+    return model.made(512, 60, 4, bytes(range(16)), bytes(range(16, 32)))
+
+
+def put(arena, offset, *words):
+    struct.pack_into("<%dI" % len(words), arena, offset, *words)
+    return arena
+
+
+FIGURES = model.made_figures(512, 60, 4)
+MAP, FLOG, COPY = FIGURES.map, FIGURES.flog, FIGURES.copy
+
+
+def with_blocks(arena, **changes):
+    """Both info blocks anew, with some figures or header fields changed."""
+    header = {k: changes.pop(k) for k in ("flags", "version", "info_size", "next_arena") if k in changes}
+    block = model.info_block(model.Figures(**{**FIGURES.__dict__, **changes}), bytes(16), bytes(16), **header)
+    arena[:4096] = arena[-4096:] = block
+    return arena
+
+
+def half(arena, lane, which, sector, old, new, sequence):
+    return put(arena, FLOG + 64 * lane + 16 * which, sector, old, new, sequence)
+
+
+def mapped(arena, sector, word):
+    return put(arena, MAP + 4 * sector, word)
+
+
+def damaged(arena, *offsets):
+    for offset in offsets:
+        arena[offset] ^= 1
+    return arena
+
+
+def loose():
+    """An allowed layout that making does not work out: gaps before every part."""
+    f = model.Figures(512, 10, 512, 12, 2, 8192, 20480, 28672, 36864)
+    arena = bytearray(b"\xA5" * (f.copy + 4096))
+    arena[f.map : f.map + 40] = bytes(40)
+    for lane in range(2):
+        arena[f.flog + 64 * lane : f.flog + 64 * lane + 32] = bytes(32)
+        put(arena, f.flog + 64 * lane, lane, 10 + lane, 10 + lane, 3)
+    arena[:4096] = arena[-4096:] = model.info_block(f, b"first identifier", b"other identifier")
+    return arena
+
+
+def all_states():
+    """Bad, zeroed and mapped words, and low bits that flags 00 leave ignored."""
+    arena = fresh()
+    for sector, word in ((3, 0x00000009), (5, 0x80000005), (6, 0x40000006), (8, 0xC0000009), (9, 0xC0000008)):
+        mapped(arena, sector, word)
+    return arena
+
+
+ARENAS = {
+    "fresh": fresh,
+    "smallest": lambda: model.made(512, 1, 1),
+    "large-sectors": lambda: model.made(4096, 1, 1),
+    "widest": lambda: model.made(512, 80, 16),
+    "loose-layout": loose,
+    "all-map-states": all_states,
+    "pending": lambda: half(fresh(), 0, 1, 7, 7, 60, 2),
+    "pending-bad-sector": lambda: mapped(half(fresh(), 0, 1, 7, 7, 60, 2), 7, 0x80000007),
+    "two-pending": lambda: half(half(fresh(), 0, 1, 7, 7, 60, 2), 3, 1, 2, 2, 63, 2),
+    "finished": lambda: mapped(half(fresh(), 0, 1, 7, 7, 60, 2), 7, 0xC000003C),
+    "one-sector-twice": lambda: mapped(half(half(fresh(), 0, 1, 7, 7, 60, 2), 1, 1, 7, 60, 61, 2), 7, 0xC000003D),
+    "wrapped-sequence": lambda: half(half(fresh(), 0, 0, 0, 60, 60, 3), 0, 1, 7, 60, 60, 1),
+    "copy-counts": lambda: damaged(fresh(), 20),
+    "copy-is-garbage": lambda: damaged(fresh(), COPY, COPY + 100),
+    "empty": lambda: bytearray(),
+    "refused-1-odd": lambda: fresh()[:-1],
+    "refused-1-short": lambda: bytearray(16384),
+    "refused-1-oversize": lambda: fresh() + bytes(16385),
+    "refused-1-longer-arena": lambda: model.made(512, 90, 16),
+    "refused-2": lambda: damaged(fresh(), 20, COPY + 20),
+    "refused-3-size": lambda: with_blocks(fresh(), size=520),
+    "refused-3-version": lambda: with_blocks(fresh(), version=(1, 1)),
+    "refused-3-not-passed-over": lambda: with_blocks(fresh(), lanes=17)[:-4096] + fresh()[-4096:],
+    "refused-3-before-4": lambda: with_blocks(fresh(), sectors=61, flags=1),
+    "refused-3-data-wraps": lambda: with_blocks(fresh(), data=2**64 - 4096),
+    "refused-3-map-wraps": lambda: with_blocks(fresh(), sectors=1100, blocks=1104, map=2**64 - 4096),
+    "refused-4": lambda: with_blocks(fresh(), flags=1),
+    "refused-6-no-newer": lambda: half(fresh(), 2, 1, 0, 0, 0, 1),
+    "refused-6-older-sequence": lambda: half(fresh(), 2, 1, 0, 0, 0, 4),
+    "refused-6-sector": lambda: half(fresh(), 1, 1, 60, 7, 61, 2),
+    "refused-6-old": lambda: half(fresh(), 1, 1, 7, 64, 61, 2),
+    "refused-6-new": lambda: half(fresh(), 1, 1, 7, 61, 64, 2),
+    "refused-6-before-7": lambda: mapped(half(fresh(), 3, 1, 7, 61, 64, 2), 0, 0xC0000040),
+    "refused-7": lambda: mapped(fresh(), 59, 0x80000040),
+    "refused-8-mapped-twice": lambda: mapped(fresh(), 5, 0xC0000006),
+    "refused-8-free-twice": lambda: half(fresh(), 0, 1, 7, 61, 61, 2),
+    "refused-8-pending-twice": lambda: half(half(fresh(), 0, 1, 7, 7, 60, 2), 1, 1, 7, 7, 61, 2),
+}
+
+
+def all_arenas():
+    return {name: bytes(build()) for name, build in ARENAS.items()}
+
+
+if __name__ == "__main__":
+    HERE.mkdir(exist_ok=True)
+    for name, arena in all_arenas().items():
+        (HERE / (name + ".img")).write_bytes(arena)
+        (HERE / (name + ".txt")).write_text(model.report(arena))

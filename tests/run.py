@@ -1,0 +1,48 @@
+"""Compares what the programs write with the model.
+
+The report is run on every arena of tests/arenas; what `cases` must write (rt runs it) has to be what the model works out.
+"""
+import pathlib
+import subprocess
+import sys
+
+import arenas
+import cases
+import model
+
+TOP = pathlib.Path(__file__).resolve().parent.parent
+REPORT = TOP / "target" / "bin" / "report"
+
+
+def check_arena(name, arena):
+    """What is wrong with the report on one arena, or nothing."""
+    stored = arenas.HERE / (name + ".img")
+    expected = (arenas.HERE / (name + ".txt")).read_bytes()
+    if stored.read_bytes() != arena:
+        return "the stored arena is not the one that the model builds"
+    if model.report(arena).encode() != expected:
+        return "the stored report is not the model's"
+    got = subprocess.run([REPORT], stdin=stored.open("rb"), capture_output=True, timeout=60).stdout
+    if got != expected:
+        return "the report is %r, not %r" % (got, expected)
+    return None
+
+
+def main():
+    built = arenas.all_arenas()
+    stray = {p.stem for p in arenas.HERE.iterdir()} - set(built)
+    wrong = ["%s: no such arena" % name for name in sorted(stray)]
+    for name, arena in built.items():
+        fault = check_arena(name, arena)
+        if fault:
+            wrong.append("%s: %s" % (name, fault))
+    if (cases.CASES / "stdout").read_text() != cases.text():
+        wrong.append("cases: the stored text is not the model's")
+    for line in wrong:
+        print("tests: " + line)
+    print("tests: %d reports compared, %d faults" % (len(built), len(wrong)))
+    return 1 if wrong else 0
+
+
+if __name__ == "__main__":
+    sys.exit(main())
