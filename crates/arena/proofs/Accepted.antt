@@ -1,22 +1,17 @@
 -- What the judging functions' answer 0 gives: figures that fit, an arena that can be mended, and the handle read off it afterwards.
-use mathlib.Core.Path.{_≡_, refl, sym, ap, ap₂, _∙_, subst}
-use mathlib.Core.Bool.{Bool, true, false, not, cond, _||_}
-use mathlib.Core.List.{List, _++_}
-use Prim.Native.Nat.{ℕ, _+_, _-_, _*_, _/_, _%_, _≤_, _<_}
+use mathlib.Core.Path.{_≡_, refl, sym, subst}
+use mathlib.Core.Bool.{Bool, true, false, not, cond}
+use mathlib.Core.List.{List}
+use Prim.Native.Nat.{ℕ}
 use native.Mathlib.Omega.{arith}
 use lib.Dec.{eqb}
-use lib.ListN.{length, take, replicate}
+use lib.ListN.{length}
 use borrow.Author.Tests.{not-false}
-use Rattle.layout.specs.Figures.{lengthAllowed, maxLanes, Allowed}
-use Rattle.layout.specs.Place.{Layout, layoutOf}
+use Rattle.layout.specs.Figures.{lengthAllowed}
+use Rattle.layout.specs.Place.{layoutOf}
 use Rattle.infoblock.specs.Info.{infoBlockOf, infoAllowed, flagsField}
-use Rattle.layout.specs.declared.Figures.{Figures}
-use Rattle.machine.specs.Stores.{putAll}
-use Rattle.machine.specs.Lane.{noLane}
-use Rattle.machine.specs.Opening.{figuresIn, layoutIn, foundLanes, mends, mended, handleFor}
+use Rattle.machine.specs.Opening.{figuresIn, layoutIn, mends, mended, handleFor}
 use Rattle.machine.specs.Valid.{Small}
-use Rattle.machine.specs.declared.lane.Lane.{Lane}
-use Rattle.machine.specs.declared.handle.Handle.{Handle}
 use Rattle.machine.proofs.Rows.{passed}
 use Rattle.machine.proofs.Stores.{putAll-length}
 use Rattle.machine.proofs.Described.{Described, described-figures, described-layout, described-exact}
@@ -26,7 +21,7 @@ use Rattle.machine.proofs.Ghosts.{Judged}
 use Rattle.machine.proofs.Judged.{judged-kept, found-kept}
 use Rattle.layout.specs.Fit.{Fit}
 use Rattle.judge.specs.Judge.{blockNumber, infoNumber, mapNumber}
-use Rattle.arena.specs.Mend.{Mendable}
+use Rattle.mend.specs.Mend.{Mendable}
 use Rattle.arena.specs.Calls.{handleRead}
 
 -- rules 1 to 4 let pass an arena that an info block describes, and no other

@@ -1,5 +1,5 @@
 -- The four ways in which judging and mending end, by what the judging functions and the mending answered.
-use mathlib.Core.Path.{_≡_, refl, sym, ap, _∙_}
+use mathlib.Core.Path.{_≡_, sym, ap, _∙_}
 use mathlib.Core.Bool.{true, false}
 use mathlib.Core.List.{List, _++_}
 use Prim.Native.Nat.{ℕ, _≤_, _<_}
@@ -13,7 +13,7 @@ use Rattle.machine.specs.Stores.{putAll}
 use Rattle.machine.specs.Opening.{figuresIn, layoutIn, mends, pendingLanes, cutOpenOf}
 use Rattle.machine.specs.Valid.{Small}
 use Rattle.judge.specs.Judge.{infoNumber, judgedFigures, mapNumber}
-use Rattle.arena.specs.Mend.{Mendable}
+use Rattle.mend.specs.Mend.{Mendable}
 use Rattle.arena.proofs.Opening.{outcome, cut-info, cut-short, cut-map, cut-done}
 use Rattle.arena.proofs.Accepted.{info-described, fit-of, map-opens, mendable}
 

@@ -3,10 +3,9 @@ use mathlib.Core.Path.{_≡_, sym, ap, _∙_}
 use mathlib.Core.Bool.{true, false}
 use mathlib.Core.List.{List}
 use Prim.Native.Nat.{ℕ, _≤_}
-use native.Mathlib.Omega.{arith}
 use lib.Dec.{eqb}
 use lib.ListN.{length}
-use borrow.Author.Tests.{eqb-true, eqb-false, eq-eqb}
+use borrow.Author.Tests.{eqb-true, eqb-false}
 use Rattle.layout.specs.Place.{layoutOf}
 use Rattle.layout.specs.declared.Figures.{Figures}
 use Rattle.machine.specs.Handle.{noHandle}
@@ -15,7 +14,7 @@ use Rattle.machine.specs.Valid.{Small}
 use Rattle.machine.specs.declared.handle.Handle.{Handle}
 use Rattle.machine.proofs.Opens.{Opens, open-zero}
 use Rattle.judge.specs.Judge.{judgedFigures}
-use Rattle.arena.specs.Mend.{Mendable}
+use Rattle.mend.specs.Mend.{Mendable}
 use Rattle.arena.specs.Calls.{handleRead}
 use Rattle.arena.proofs.Opening.{outcome, open-refused, open-done}
 use Rattle.arena.proofs.Accepted.{described-info, fit-of, mended-mendable, handle-is}

@@ -1,9 +1,9 @@
 -- Opening's number in the parts in which it is judged, and what an opening then leaves.
-use mathlib.Core.Path.{_≡_, refl, sym, ap, ap₂, _∙_, subst}
+use mathlib.Core.Path.{_≡_, refl, sym, _∙_}
 use mathlib.Core.Logic.{_≢_}
 use mathlib.Core.Bool.{Bool, true, false, cond, not, _&&_, _||_}
-use mathlib.Core.List.{List, [], _∷_, _++_}
-use Prim.Native.Nat.{ℕ, zero, suc, _+_, _-_, _*_, _≤_, _<_}
+use mathlib.Core.List.{List, _++_}
+use Prim.Native.Nat.{ℕ, zero, suc, _+_, _≤_, _<_}
 use native.Mathlib.Omega.{arith}
 use lib.Dec.{eqb, leb, ltb}
 use lib.ListN.{length, take, drop, replicate}
@@ -12,9 +12,8 @@ use borrow.Author.Tests.{eq-eqb, ne-eqb, le-leb, lt-leb, lt-ltb, le-ltb}
 use Rattle.format.specs.Tests.{every, some}
 use Rattle.format.specs.MapWord.{badWord}
 use Rattle.layout.specs.Figures.{lengthAllowed}
-use Rattle.layout.specs.Place.{Layout, layoutOf}
+use Rattle.layout.specs.Place.{Layout}
 use Rattle.infoblock.specs.Info.{infoBlockOf, infoAllowed, flagsField}
-use Rattle.format.proofs.Tests.{by-bool, every-elim, some-elim}
 use Rattle.machine.specs.Stores.{putAll}
 use Rattle.machine.specs.Flog.{mapWord, mapBlock, freeOf, pending}
 use Rattle.machine.specs.Handle.{noHandle}
@@ -36,16 +35,22 @@ use Rattle.machine.specs.Opening.{
 use Rattle.machine.proofs.Mends.{length-mends}
 use Rattle.judge.specs.Judge.{blockNumber, infoNumber, mapNumber}
 
+-- rules 1 to 4 by their four tests
+abbrev row : Bool → Bool → Bool → Bool → ℕ
+row p q r s = cond p (cond q 2 (cond r 3 (cond s 4 0))) 1
+
 -- rules 1 to 4, then 5, then 6 to 8
 pub open-number : (a : List ℕ) (room : ℕ)
     → openNumber a room ≡ cond (eqb (infoNumber a) 0) (cond (ltb room ((layoutIn a) .I)) 5 (mapNumber (layoutIn a) a)) (infoNumber a)
 unfolding openNumber infoNumber blockNumber mapNumber
-open-number a room = go (lengthAllowed (length a)) (eqb (length (infoBlockOf a)) 0) (not (infoAllowed (infoBlockOf a) (length a))) (not (eqb (flagsField (infoBlockOf a)) 0))
+open-number a room =
+    let b = infoBlockOf a in
+    go (lengthAllowed (length a)) (eqb (length b) 0) (not (infoAllowed b (length a))) (not (eqb (flagsField b) 0))
   where
     rest : ℕ
     rest = cond (ltb room ((layoutIn a) .I)) 5 (mapNumber (layoutIn a) a)
 
-    go : (p q r s : Bool) → cond {A = ℕ} (not p) 1 (cond q 2 (cond r 3 (cond s 4 rest))) ≡ cond (eqb (cond p (cond q 2 (cond r 3 (cond s 4 0))) 1) 0) rest (cond p (cond q 2 (cond r 3 (cond s 4 0))) 1)
+    go : (p q r s : Bool) → cond {A = ℕ} (not p) 1 (cond q 2 (cond r 3 (cond s 4 rest))) ≡ cond (eqb (row p q r s) 0) rest (row p q r s)
     go false q r s = refl
     go true true r s = refl
     go true false true s = refl
@@ -55,9 +60,11 @@ open-number a room = go (lengthAllowed (length a)) (eqb (length (infoBlockOf a))
 -- a refusal by rules 1 to 4 is a number from 1 to 4, one by rules 6 to 8 a number from 6 on
 pub info-few : (a : List ℕ) → infoNumber a ≢ 0 → (1 ≤ infoNumber a) × (infoNumber a ≤ 4)
 unfolding infoNumber blockNumber
-info-few a e = go (lengthAllowed (length a)) (eqb (length (infoBlockOf a)) 0) (not (infoAllowed (infoBlockOf a) (length a))) (not (eqb (flagsField (infoBlockOf a)) 0)) e
+info-few a e =
+    let b = infoBlockOf a in
+    go (lengthAllowed (length a)) (eqb (length b) 0) (not (infoAllowed b (length a))) (not (eqb (flagsField b) 0)) e
   where
-    go : (p q r s : Bool) → cond {A = ℕ} p (cond q 2 (cond r 3 (cond s 4 0))) 1 ≢ 0 → (1 ≤ cond p (cond q 2 (cond r 3 (cond s 4 0))) 1) × (cond p (cond q 2 (cond r 3 (cond s 4 0))) 1 ≤ 4)
+    go : (p q r s : Bool) → row p q r s ≢ 0 → (1 ≤ row p q r s) × (row p q r s ≤ 4)
     go false q r s e = (omega arith, omega arith)
     go true true r s e = (omega arith, omega arith)
     go true false true s e = (omega arith, omega arith)
@@ -147,4 +154,7 @@ module _ (a work : List ℕ) where
         work = (cutOpenOf a work k) .work;
       } ≡ openOf a work
   unfolding cutOpenOf openOf
-  open-done k e u = rw (eq-eqb _ _ e, take-all k (mends (layoutIn a) a ((layoutIn a) .N)) (rw length-mends (omega (arith, pending-most (layoutIn a) a ((layoutIn a) .N)))))
+  open-done k e u =
+      let g = layoutIn a in
+      let few : length (mends g a (g .N)) ≤ k = rw length-mends (omega (arith, pending-most g a (g .N))) in
+      rw (eq-eqb _ _ e, take-all k (mends g a (g .N)) few)

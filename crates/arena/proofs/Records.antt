@@ -10,13 +10,10 @@ use Rattle.layout.specs.Place.{Layout}
 use Rattle.machine.specs.Lane.{noLane}
 use Rattle.machine.specs.Opening.{foundLane, foundLanes}
 use Rattle.machine.specs.declared.lane.Lane.{Lane}
-use Rattle.machine.proofs.Lanes.{listed-length, found-listed}
+use Rattle.machine.proofs.Lanes.{found-length}
 
 abbrev pub records : Layout → List ℕ → ℕ → List Lane
 records g a l = foundLanes g a l ++ replicate (16 - l) noLane
-
-found-length : (g : Layout) (a : List ℕ) (l : ℕ) → length (foundLanes g a l) ≡ l
-found-length g a l = ap length (found-listed g a l) ∙ listed-length (foundLane g a) l
 
 pub records-none : (g : Layout) (a : List ℕ) → replicate 16 noLane ≡ records g a 0
 unfolding foundLanes

@@ -1,5 +1,4 @@
 // The calls on an arena: making, showing the info block that counts, opening and cut opening.
-mod mend;
 pub mod open;
 
 pub use judge::info::info_block;

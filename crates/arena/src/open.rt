@@ -1,20 +1,20 @@
 // Opening and cut opening.
-use super::mend::mend;
 use format::numbers::LaneNo;
-use judge::flog::found_lane;
 use judge::opening::judge_info;
 use judge::opening::judge_map;
+use lanes::found_lane;
 use layout::Figures;
 use layout::MAX_LANES;
 use machine::answer::Answer;
 use machine::handle::Handle;
 use machine::handle::no_handle;
 use machine::lane::Lane;
+use mend::mend;
 ghost use mathlib.Core.Path.{_≡_};
 ghost use Rattle.machine.specs.Opening.{openOf, cutOpenOf};
 ghost use Rattle.judge.specs.Judge.{judgedFigures};
 ghost use Rattle.arena.specs.Calls.{openGave, cutGave, handleRead};
-ghost use Rattle.arena.specs.Mend.{Mendable};
+ghost use Rattle.mend.specs.Mend.{Mendable};
 
 // What opening gives: the answer, the number of pending lanes as found, and the handle (all zeroes on a refusal).
 pub struct Opened {

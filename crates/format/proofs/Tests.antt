@@ -1,8 +1,9 @@
 -- Tests over a range: what they give of each number below the limit, and back. Each by recursion on the limit.
 use mathlib.Core.Path.{_≡_, refl, sym, ap, _∙_}
 use mathlib.Core.Bool.{Bool, true, false, _&&_, _||_}
-use Prim.Native.Nat.{ℕ, zero, suc, _<_}
+use Prim.Native.Nat.{ℕ, zero, suc, _+_, _<_}
 use native.Mathlib.Omega.{arith}
+use native.Mathlib.Numerals.{add-one}
 use native.Mathlib.Decide.{ℕ-discrete}
 use mathlib.Core.List.{List, [], _∷_}
 use Rattle.format.specs.Tests.{every, some, allOf}
@@ -41,6 +42,15 @@ some-zero t = refl
 pub some-step : (n : ℕ) (t : ℕ → Bool) → some (suc n) t ≡ some n t || t n
 unfolding some
 some-step n t = refl
+
+-- a turn of a loop that tests the numbers one by one
+pub every-more : (n : ℕ) (t : ℕ → Bool) → every n t ≡ true → t n ≡ true → every (n + 1) t ≡ true
+unfolding every
+every-more n t h e = rw (add-one, h) e
+
+pub some-more : (n : ℕ) (t : ℕ → Bool) → some n t ≡ false → t n ≡ false → some (n + 1) t ≡ false
+unfolding some
+some-more n t h e = rw (add-one, h) e
 
 pub every-intro : (n : ℕ) (t : ℕ → Bool) → ((i : ℕ) → i < n → t i ≡ true) → every n t ≡ true
 unfolding every

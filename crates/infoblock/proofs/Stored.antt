@@ -56,11 +56,11 @@ module _ (first second : List ℕ) (f : Figures) (a0 a1 a2 a3 b0 b1 b2 b3 d0 d1 
         ← signature-word 3 (omega arith),
       )
 
-head-length : (first second : List ℕ) (f : Figures) → length (headWords first second f) ≡ 30
+pub head-length : (first second : List ℕ) (f : Figures) → length (headWords first second f) ≡ 30
 unfolding headWords
 head-length first second f = refl
 
-body-length : (first second : List ℕ) (f : Figures) → length (bodyWords first second f) ≡ 1022
+pub body-length : (first second : List ℕ) (f : Figures) → length (bodyWords first second f) ≡ 1022
 body-length first second f =
     omega (arith, head-length first second f, length-append (headWords first second f) (replicate 992 0), length-replicate {A = ℕ} 992 0)
 

@@ -1,8 +1,8 @@
 -- The parts in which opening's row of tests is judged.
-use mathlib.Core.Bool.{Bool, cond, not, _&&_, _||_}
+use mathlib.Core.Bool.{Bool, cond, not, _||_}
 use mathlib.Core.List.{List, [], _∷_}
-use Prim.Native.Nat.{ℕ, _+_}
-use lib.Dec.{eqb, leb, ltb}
+use Prim.Native.Nat.{ℕ}
+use lib.Dec.{eqb}
 use lib.ListN.{length}
 use Rattle.format.specs.Tests.{every, some}
 use Rattle.format.specs.MapWord.{badWord}
@@ -11,9 +11,9 @@ use Rattle.layout.specs.Place.{Layout}
 use Rattle.infoblock.specs.Info.{infoBlockOf, infoAllowed, flagsField}
 use Rattle.layout.specs.declared.Figures.{Figures}
 use Rattle.machine.specs.Rules.{_⇒_, verdict}
-use Rattle.machine.specs.Flog.{mapWord, mapBlock, freeOf, spareOf}
+use Rattle.machine.specs.Flog.{mapWord, mapBlock, freeOf}
 use Rattle.machine.specs.Handle.{noFigures}
-use Rattle.machine.specs.Opening.{figuresIn, laneReadable, twoPending, eachOnce, mended, count}
+use Rattle.machine.specs.Opening.{figuresIn, laneReadable, twoPending, eachOnce, mended}
 
 -- rules 3 and 4, by whether the figures are allowed, and whether no flag is set
 unfoldable pub figuresNumber : Bool → Bool → ℕ
@@ -30,12 +30,6 @@ infoNumber a = cond (lengthAllowed (length a)) (blockNumber (infoBlockOf a) (len
 -- the figures of an arena that passes them
 unfoldable pub judgedFigures : List ℕ → Figures
 judgedFigures a = cond (eqb (infoNumber a) 0) (figuresIn a) noFigures
-
--- every block is claimed once: free blocks are distinct, and the mapped blocks as found with the lanes' spare blocks are each block once
-unfoldable pub blocksOnce : Layout → List ℕ → Bool
-blocksOnce g a =
-    every (g .I) (λ b. leb (count (g .N) (freeOf g a) b) 1)
-    && every (g .I) (λ b. eqb (count (g .E) (mapBlock g a) b + count (g .N) (spareOf g a) b) 1)
 
 -- rules 6 to 8
 unfoldable pub mapNumber : Layout → List ℕ → ℕ

@@ -1,3 +1,1 @@
-pub mod Fit
-pub mod Marks
 pub mod Judge

@@ -1,22 +1,22 @@
 // Opening's rules 1 to 8: all is judged before anything is stored.
-use super::flog::lane_readable;
-use super::flog::map_word;
 use super::info::info_block;
-use super::marks::blocks_once;
-use super::marks::clear;
 use format::map::bad_word;
 use format::numbers::LaneNo;
 use format::numbers::SectorNo;
 use infoblock::figures_of;
 use infoblock::info_allowed;
+use lanes::lane_readable;
+use lanes::map_word;
 use layout::Figures;
 use layout::length_allowed;
 use machine::answer::Answer;
 use machine::handle::no_figures;
+use marks::blocks_once;
+use marks::clear;
 use words::word_at;
 ghost use mathlib.Core.Path.{_≡_};
-ghost use mathlib.Core.Bool.{Bool, true, false};
-ghost use Prim.Native.Nat.{_+_, _≤_, _<_};
+ghost use mathlib.Core.Bool.{true, false};
+ghost use Prim.Native.Nat.{_≤_, _<_};
 ghost use lib.ListN.{length};
 ghost use Rattle.format.specs.Tests.{every, some};
 ghost use Rattle.format.specs.MapWord.{badWord};
@@ -25,7 +25,7 @@ ghost use Rattle.machine.specs.Answer.{numberOf};
 ghost use Rattle.machine.specs.Flog.{mapWord};
 ghost use Rattle.machine.specs.Opening.{laneReadable};
 ghost use Rattle.layout.specs.Fit.{Fit};
-ghost use Rattle.judge.specs.Marks.{cleared};
+ghost use Rattle.marks.specs.Marks.{cleared};
 ghost use Rattle.judge.specs.Judge.{figuresNumber, blockNumber, infoNumber, judgedFigures, mapNumber};
 
 // What rules 1 to 4 found: an answer, and the figures where it is Done.

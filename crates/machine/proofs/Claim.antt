@@ -1,4 +1,4 @@
--- The claim about opening: what opening answers, that a refusal changes nothing, that cut openings leave no trace, and what it counts.
+-- The claim about opening: what opening answers, that a refusal changes nothing, that cut openings leave no trace, what it counts, finds and mends.
 -- The parts are proved in the modules that it cites; the rest follows from the tests of the answer.
 use mathlib.Core.Path.{_≡_, refl, sym, ap}
 use mathlib.Core.Logic.{_≢_}
@@ -23,6 +23,7 @@ use Rattle.machine.proofs.Opens.{open-zero, zero-open, opens-judged}
 use Rattle.machine.proofs.Kept.{kept-info, kept-opens, kept-mended, kept-handle}
 use Rattle.machine.proofs.Answers.{opening-answers}
 use Rattle.machine.proofs.Cuts.{cuts-no-trace}
+use Rattle.machine.proofs.InBytes.{handle-as-found, opening-mends}
 
 module _ (a work : List ℕ) where
   refused-open : (openOf a work) .number ≢ 0 → RefusedOpening a work (openOf a work)
@@ -109,4 +110,6 @@ opening-claim = record {
   cuts = λ a work cuts small. cuts-no-trace work a cuts small;
   count = count-pending;
   again = λ a work again small e room. opened-again a work again small e room;
+  handle = handle-as-found;
+  mends = opening-mends;
 }

@@ -3,36 +3,33 @@
 use mathlib.Core.Path.{_≡_, refl, sym, ap, ap₂, _∙_, subst}
 use mathlib.Core.Logic.{_⊎_, inl, inr}
 use mathlib.Core.Bool.{true, false, cond}
-use mathlib.Core.List.{List, [], _∷_, _++_, append-assoc}
+use mathlib.Core.List.{List}
 use Prim.Native.Nat.{ℕ, zero, suc, _+_, _-_, _≤_, _<_}
 use native.Mathlib.Omega.{arith}
 use native.Mathlib.Decide.{ℕ-discrete}
 use lib.Dec.{eqb, ltb}
-use lib.ListN.{length, getD, length-append}
-use lib.Seq.{getD-at}
-use borrow.Author.Tests.{lt-ltb, ltb-true, ltb-false, ne-eqb, eq-eqb}
+use borrow.Author.Tests.{ltb-true, ltb-false, ne-eqb, eq-eqb}
 use Rattle.format.specs.Tests.{every, some}
 use Rattle.format.specs.Sequence.{newer, successor}
 use Rattle.format.specs.MapWord.{blockOf, badWord}
 use Rattle.layout.specs.Place.{Layout, LayoutOk}
 use Rattle.format.proofs.Tests.{by-bool, every-intro, some-intro}
 use Rattle.format.proofs.MapWord.{block-zero}
-use Rattle.machine.specs.declared.lane.Lane.{Lane}
-use Rattle.machine.specs.Lane.{idleLane, noLane}
+use Rattle.machine.specs.Lane.{idleLane}
 use Rattle.machine.specs.Stores.{Store, putAll}
 use Rattle.machine.specs.Flog.{mapWord, mapBlock, flogWord, newerHalf, logged, freeOf, pending}
 use Rattle.machine.specs.Opening.{
   laneReadable,
-  mends,
   pendingLanes,
   mended,
   twoPending,
   count,
   eachOnce,
   foundLane,
-  foundLanes,
 }
 use Rattle.machine.specs.Valid.{Readable, BadWord, Pending, blockAt, EachOnce, Settled}
+use Rattle.machine.proofs.Mends.{none-mended, none-pending}
+use Rattle.machine.proofs.Reflect.{ok-readable}
 
 pub record Fresh (g : Layout) (a : List ℕ) : Type 0 where
   pub ok : LayoutOk g
@@ -70,27 +67,6 @@ count-hit (suc n) c b f e h k =
     go (yes p) hit miss = rw (eq-eqb b (f n) (p ∙ sym (e n (omega arith))), miss (inr (omega arith)))
     go (no p) hit miss = rw (ne-eqb b (f n) (λ q. p (q ∙ e n (omega arith))), hit (omega arith))
 
--- the lanes of a handle as opening finds them
-pub found-length : (g : Layout) (a : List ℕ) (n : ℕ) → length (foundLanes g a n) ≡ n
-unfolding foundLanes
-found-length g a zero = refl
-found-length g a (suc n) = length-append (foundLanes g a n) (foundLane g a n ∷ []) ∙ omega (arith, found-length g a n)
-
-pub found-at : (g : Layout) (a : List ℕ) (n l : ℕ) (rest : List Lane) → l < n → getD (foundLanes g a n ++ rest) l noLane ≡ foundLane g a l
-unfolding foundLanes
-found-at g a zero l rest u = absurd (omega arith)
-found-at g a (suc n) l rest u =
-    ap (λ (x : List Lane). getD x l noLane) (append-assoc (foundLanes g a n) (foundLane g a n ∷ []) rest)
-    ∙ go (ℕ-discrete l n) (λ v. found-at g a n l (foundLane g a n ∷ rest) v)
-  where
-    P : Type 0
-    P = getD (foundLanes g a n ++ (foundLane g a n ∷ rest)) l noLane ≡ foundLane g a l
-
-    go : Dec (l ≡ n) → (l < n → P) → P
-    go (yes e) ih =
-        getD-at (foundLanes g a n) (foundLane g a n) rest noLane l (found-length g a n ∙ sym e) ∙ ap (foundLane g a) (sym e)
-    go (no d) ih = ih (omega arith)
-
 module _ (g : Layout) (a : List ℕ) (f : Fresh g a) where
   newer-fresh : (l : ℕ) → l < g .N → newerHalf g a l ≡ 0
   unfolding newerHalf newer
@@ -118,22 +94,12 @@ module _ (g : Layout) (a : List ℕ) (f : Fresh g a) where
   unfolding pending
   pending-fresh l u = ne-eqb _ _ (settled-fresh l u)
 
-  mends-fresh : (n : ℕ) → n ≤ g .N → mends g a n ≡ []
-  unfolding mends
-  mends-fresh zero u = refl
-  mends-fresh (suc n) u = rw (mends-fresh n (omega arith), pending-fresh n (omega arith))
-
-  count-fresh : (n : ℕ) → n ≤ g .N → pendingLanes g a n ≡ 0
-  unfolding pendingLanes
-  count-fresh zero u = refl
-  count-fresh (suc n) u = rw (count-fresh n (omega arith), pending-fresh n (omega arith))
-
   pub pending-none : pendingLanes g a (g .N) ≡ 0
-  pending-none = count-fresh (g .N) (omega arith)
+  pending-none = none-pending g a (g .N) pending-fresh
 
   pub mended-same : mended g a ≡ a
   unfolding putAll
-  mended-same = ap (λ (m : List Store). putAll g m a) (mends-fresh (g .N) (omega arith))
+  mended-same = ap (λ (m : List Store). putAll g m a) (none-mended g a (g .N) pending-fresh)
 
   pub readable : (l : ℕ) → l < g .N → Readable g a l
   readable l u =
@@ -145,10 +111,7 @@ module _ (g : Layout) (a : List ℕ) (f : Fresh g a) where
       record { newer = omega arith; sector = omega arith; old = omega arith; new = omega arith }
 
   pub lanes-readable : every (g .N) (laneReadable g a) ≡ true
-  unfolding laneReadable
-  lanes-readable =
-      every-intro (g .N) (laneReadable g a)
-      (λ l u. let r = readable l u in rw (lt-ltb _ _ (r .newer), lt-ltb _ _ (r .sector), lt-ltb _ _ (r .old), lt-ltb _ _ (r .new)))
+  lanes-readable = every-intro (g .N) (laneReadable g a) (λ l u. ok-readable g a l (readable l u))
 
   pub words-fine : some (g .E) (λ s. badWord (g .I) (mapWord g a s)) ≡ false
   words-fine = some-intro (g .E) (λ s. badWord (g .I) (mapWord g a s)) (λ s u. rw (f .map s u))

@@ -1,6 +1,6 @@
 -- A block whose words are those of a made info block: it is sound, its figures are the given ones, and no figure of it is forbidden.
 -- Its words are a head, zeroes and the checksum, each read off the list.
-use mathlib.Core.Path.{_≡_, refl, sym, ap, ap₂, _∙_}
+use mathlib.Core.Path.{_≡_, sym, ap, ap₂, _∙_}
 use mathlib.Core.Logic.{⊎-elim}
 use mathlib.Core.Bool.{true}
 use mathlib.Core.List.{List, [], _∷_, _++_}
@@ -8,7 +8,7 @@ use Prim.Native.Nat.{ℕ, zero, suc, _+_, _*_, _/_, _%_, _≤_, _<_}
 use native.Mathlib.Omega.{arith}
 use native.Mathlib.Nat.{div-add-mod', le-mul-of-pos-right, zero-add}
 use lib.Dec.{eqb}
-use lib.ListN.{length, getD, replicate, length-append, length-replicate, List·getD-append}
+use lib.ListN.{length, getD, replicate, length-append, List·getD-append}
 use lib.Seq.{getD-append-add, ext-getD}
 use borrow.Author.Tests.{eq-eqb}
 use Rattle.words.specs.Word.{word, wordsFrom, joined, long}
@@ -35,6 +35,7 @@ use Rattle.format.proofs.Tests.{every-intro}
 use Rattle.format.proofs.Below.{Below, below-append, below-replicate, below-each, none, _◂_}
 use Rattle.layout.proofs.Allowed.{size-words}
 use Rattle.infoblock.proofs.InfoBlock.{signature-small, sound-intro}
+use Rattle.infoblock.proofs.Stored.{head-length, body-length}
 
 -- a number is its two words
 joined-split : (n : ℕ) → joined (n % 4294967296) (n / 4294967296) ≡ n
@@ -45,32 +46,25 @@ pub getD-past : (xs ys : List ℕ) (n k : ℕ) → length xs ≡ n → getD (xs 
 getD-past xs ys n k e = rw (← e) (getD-append-add xs ys k 0)
 
 module _ (first second : List ℕ) (f : Figures) where
-  head-length : length (headWords first second f) ≡ 30
-  unfolding headWords
-  head-length = refl
-
-  body-length : length (bodyWords first second f) ≡ 1022
-  body-length = length-append (headWords first second f) (replicate 992 0) ∙ ap₂ _+_ head-length (length-replicate {A = ℕ} 992 0)
-
   pub info-length : length (infoWords first second f) ≡ 1024
   unfolding infoWords
-  info-length = length-append (bodyWords first second f) (split (madeChecksum first second f) []) ∙ ap (λ (n : ℕ). n + 2) body-length
+  info-length = length-append (bodyWords first second f) (split (madeChecksum first second f) []) ∙ ap (λ (n : ℕ). n + 2) (body-length first second f)
 
   info-body : (k : ℕ) → k < 1022 → getD (infoWords first second f) k 0 ≡ getD (bodyWords first second f) k 0
   unfolding infoWords
-  info-body k u = List·getD-append (bodyWords first second f) (split (madeChecksum first second f) []) 0 k (rw body-length u)
+  info-body k u = List·getD-append (bodyWords first second f) (split (madeChecksum first second f) []) 0 k (rw (body-length first second f) u)
 
   info-head : (k : ℕ) → k < 30 → getD (infoWords first second f) k 0 ≡ getD (headWords first second f) k 0
   info-head k u =
-      info-body k (omega arith) ∙ List·getD-append (headWords first second f) (replicate 992 0) 0 k (rw head-length u)
+      info-body k (omega arith) ∙ List·getD-append (headWords first second f) (replicate 992 0) 0 k (rw (head-length first second f) u)
 
   info-low : getD (infoWords first second f) 1022 0 ≡ madeChecksum first second f % 4294967296
   unfolding infoWords
-  info-low = getD-past (bodyWords first second f) (split (madeChecksum first second f) []) 1022 0 body-length
+  info-low = getD-past (bodyWords first second f) (split (madeChecksum first second f) []) 1022 0 (body-length first second f)
 
   info-high : getD (infoWords first second f) 1023 0 ≡ madeChecksum first second f / 4294967296
   unfolding infoWords
-  info-high = getD-past (bodyWords first second f) (split (madeChecksum first second f) []) 1022 1 body-length
+  info-high = getD-past (bodyWords first second f) (split (madeChecksum first second f) []) 1022 1 (body-length first second f)
 
   -- each word fits 32 bits
   module _ (p : Below 256 first) (q : Below 256 second) (n : ℕ) (ok : Allowed f n) (h : n ≤ 16777216) where
@@ -119,7 +113,7 @@ module _ (first second : List ℕ) (f : Figures) where
 
     words-fresh : wordsFrom b 0 1022 ≡ bodyWords first second f
     words-fresh =
-        ext-getD 0 _ _ (length-wordsFrom b 0 1022 ∙ sym body-length)
+        ext-getD 0 _ _ (length-wordsFrom b 0 1022 ∙ sym (body-length first second f))
         (λ k u. let v : k < 1022 = rw length-wordsFrom at u in
         getD-wordsFrom b 0 1022 k v ∙ ap (word b) (zero-add k) ∙ w k (omega arith) ∙ info-body k v)
 

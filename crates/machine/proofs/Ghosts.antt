@@ -29,7 +29,7 @@ use Rattle.machine.proofs.Found.{ended, settledLane, pending-is, mends-
 use Rattle.machine.proofs.Ends.{finishLanes, finish-later, finish-sooner, finish-inv}
 use Rattle.machine.proofs.Mends.{readable-of, pending-old}
 use Rattle.machine.proofs.Spare.{two-none, spare-count}
-use Rattle.machine.proofs.Lanes.{listed, listed-length, listed-at, lane-listed, found-listed, inv-same}
+use Rattle.machine.proofs.Lanes.{listed, listed-length, lane-listed, found-length, found-at, inv-same}
 
 -- an arena that passes rules 6 to 8, in its layout
 pub record Judged (g : Layout) (a : List ℕ) : Type 0 where
@@ -183,8 +183,8 @@ module _ (g : Layout) (a : List ℕ) (j : Judged g a) where
   -- the arena that opening leaves, with the records that it gives
   pub opened-inv : (rest : List Lane) → Inv g (mended g a) (foundLanes g a (g .N) ++ rest)
   opened-inv rest = inv-same g (mended g a) (finishLanes g (ghosts g a) (g .N)) (foundLanes g a (g .N) ++ rest)
-      (rw (found-listed g a (g .N), length-append, listed-length) (omega arith))
-      (λ l u. rw (found-listed g a (g .N)) (listed-at (foundLane g a) (g .N) l rest u) ∙ sym (settled l u))
+      (rw (length-append, found-length) (omega arith))
+      (λ l u. found-at g a (g .N) l rest u ∙ sym (settled l u))
       (mends-inv (g .N) (omega arith))
     where
       settled : (l : ℕ) → l < g .N → laneAt (finishLanes g (ghosts g a) (g .N)) l ≡ foundLane g a l

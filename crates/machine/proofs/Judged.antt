@@ -1,6 +1,6 @@
 -- The invariant gives what opening judges, and a valid arena that is partly mended is valid: the stores that are left are those of
 -- its own opening, and the records that opening gives stay the same.
-use mathlib.Core.Path.{_≡_, refl, sym, ap, ap₂, _∙_}
+use mathlib.Core.Path.{_≡_, sym, ap, ap₂, _∙_}
 use mathlib.Core.Logic.{_≢_}
 use mathlib.Core.List.{List, [], _++_, append-assoc, append-nil}
 use mathlib.Core.Bool.{true, false}
@@ -19,7 +19,7 @@ use Rattle.machine.proofs.Stores.{putAll-append}
 use Rattle.machine.proofs.Inv.{Inv, blockIn}
 use Rattle.machine.proofs.Found.{ended, ended-true, finals, found-lane, lane-readable, log-after, busy-after, pending-is, mends-are}
 use Rattle.machine.proofs.Ends.{finishLanes, finish-sooner, finish-inv, settled-ended}
-use Rattle.machine.proofs.Mends.{mends-newer, mends-logged}
+use Rattle.machine.proofs.Mends.{none-mended, none-pending, mends-newer, mends-logged}
 use Rattle.machine.proofs.Spare.{none-two}
 use Rattle.machine.proofs.Lanes.{listed-length, listed-same, found-listed}
 use Rattle.machine.proofs.Ghosts.{Judged, ghostLane, ghosts, mends-inv, pending-kept}
@@ -75,14 +75,10 @@ module _ (g : Layout) (a : List ℕ) (j : Judged g a) (n : ℕ) (few : n ≤ g .
       ∙ ap (ended g) (finish-sooner g (ghosts g a) n l u (rw (listed-length (ghostLane g a) (g .N)) few)) ∙ settled-ended g (laneAt (ghosts g a) l)
 
   pub mends-none : (m : ℕ) → m ≤ n → mends g (putAll g (mends g a n) a) m ≡ []
-  unfolding mends
-  mends-none zero u = refl
-  mends-none (suc m) u = rw (mends-none m (omega arith), pending-done m u)
+  mends-none m u = none-mended g A m (λ l v. pending-done l (omega arith))
 
   pub pending-none : (m : ℕ) → m ≤ n → pendingLanes g (putAll g (mends g a n) a) m ≡ 0
-  unfolding pendingLanes
-  pending-none zero u = refl
-  pending-none (suc m) u = rw (pending-none m (omega arith), pending-done m u)
+  pending-none m u = none-pending g A m (λ l v. pending-done l (omega arith))
 
   mend-same : (l : ℕ) → l < g .N → mendStore g (putAll g (mends g a n) a) l ≡ mendStore g a l
   mend-same l u =

@@ -1,7 +1,7 @@
 -- Lists of lane records: the records of the lanes below n, one by one, and the invariant of records that agree below the lanes.
 use mathlib.Core.Path.{_≡_, refl, sym, ap, ap₂, _∙_}
 use mathlib.Core.List.{List, [], _∷_, _++_, append-assoc, append-nil}
-use Prim.Native.Nat.{ℕ, zero, suc, _+_, _≤_, _<_}
+use Prim.Native.Nat.{ℕ, zero, suc, _≤_, _<_}
 use native.Mathlib.Omega.{arith}
 use native.Mathlib.Decide.{ℕ-discrete}
 use lib.ListN.{length, length-append}
@@ -46,6 +46,12 @@ pub found-listed : (g : Layout) (a : List ℕ) (n : ℕ) → foundLanes g a n �
 unfolding foundLanes listed
 found-listed g a zero = refl
 found-listed g a (suc n) = ap (λ (x : List Lane). x ++ (foundLane g a n ∷ [])) (found-listed g a n)
+
+pub found-length : (g : Layout) (a : List ℕ) (n : ℕ) → length (foundLanes g a n) ≡ n
+found-length g a n = ap length (found-listed g a n) ∙ listed-length (foundLane g a) n
+
+pub found-at : (g : Layout) (a : List ℕ) (n l : ℕ) (rest : List Lane) → l < n → laneAt (foundLanes g a n ++ rest) l ≡ foundLane g a l
+found-at g a n l rest u = rw (found-listed g a n) (listed-at (foundLane g a) n l rest u)
 
 -- the invariant reads the records of the lanes alone
 pub inv-same : (g : Layout) (a : List ℕ) (lanes lanes′ : List Lane) → g .N ≤ length lanes′

@@ -18,6 +18,7 @@ pub mod Reflect
 pub mod Answers
 pub mod Kept
 pub mod Cuts
+pub mod InBytes
 pub mod Claim
 pub mod Good
 pub mod FreshArena

@@ -15,15 +15,16 @@ use Rattle.infoblock.specs.Info.{sound, infoBlockOf, flagsField, figuresOf, inf
 use Rattle.layout.specs.declared.Figures.{Figures}
 use Rattle.format.proofs.Below.{Below, below-take}
 use Rattle.layout.proofs.Allowed.{of-allowed, layout-ok, layout-exact}
-use Rattle.infoblock.proofs.InfoBlock.{length-of, info-in, counting-main, signed-bytes, sound-signed, sound-checksum}
+use Rattle.infoblock.proofs.InfoBlock.{length-of, info-in, counting-main}
 use Rattle.machine.specs.Lane.{idleLane, noLane}
 use Rattle.machine.specs.Handle.{laneAt}
 use Rattle.machine.specs.Making.{dataEnd}
 use Rattle.machine.specs.Opening.{figuresIn, layoutIn, openNumber, openOf, handleFor}
-use Rattle.machine.specs.Valid.{LengthOk, Sound, InfoOk, Valid}
+use Rattle.machine.specs.Valid.{Sound, InfoOk, Valid}
+use Rattle.machine.proofs.Lanes.{found-at}
+use Rattle.machine.proofs.Reflect.{length-ok, sound-ok}
 use Rattle.machine.proofs.FreshArena.{
   Fresh,
-  found-at,
   lane-fresh,
   pending-none,
   mended-same,
@@ -57,10 +58,6 @@ use Rattle.machine.proofs.MadeArena.{
   main-word,
   made-copy,
 }
-
--- rule 1 as a test and as its record
-pub length-ok : (n : ℕ) → lengthAllowed n ≡ true → LengthOk n
-length-ok n e = let h = length-of n e in record { multiple = h .0; least = h .1; most = h .2 }
 
 -- the arena made of two identifiers and figures
 abbrev pub madeOf : List ℕ → List ℕ → Figures → List ℕ → List ℕ
@@ -144,11 +141,7 @@ module _ (first second : List ℕ) (f : Figures) (a : List ℕ) (d : Given first
       (made-fresh (layoutOf f) a (infoWords first second f) room)
 
   sound-block : Sound main
-  sound-block = record {
-    size = main-size;
-    signed = signed-bytes main (omega (arith, main-size)) main-small (sound-signed main main-sound);
-    checksum = sound-checksum main main-sound;
-  }
+  sound-block = sound-ok main main-small main-sound
 
   info-ok : InfoOk main (length a)
   info-ok =

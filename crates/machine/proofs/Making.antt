@@ -14,7 +14,6 @@ use Rattle.layout.specs.Place.{Layout, layoutOf}
 use Rattle.layout.specs.declared.Figures.{Figures}
 use Rattle.format.proofs.Tests.{and-intro, and-elim}
 use Rattle.layout.proofs.Allowed.{sizes-of, of-sizes, made-allowed, quarter}
-use Rattle.infoblock.proofs.InfoBlock.{of-length}
 use Rattle.machine.specs.Rules.{First}
 use Rattle.machine.specs.Lane.{idleLane}
 use Rattle.machine.specs.Flog.{mapWord}
@@ -23,9 +22,9 @@ use Rattle.machine.specs.Opening.{layoutIn, openOf, mended}
 use Rattle.machine.specs.Valid.{Small, LengthOk, SizesOk, makeRow}
 use Rattle.machine.specs.Claims.{Lent, MadeArena, smallest, MakingClaim}
 use Rattle.machine.proofs.Rows.{passed, first-of, asks, end}
+use Rattle.machine.proofs.Reflect.{length-ok, ok-length}
 use Rattle.machine.proofs.MadeValid.{
   Given,
-  length-ok,
   madeOf,
   same-length,
   same-copy,
@@ -49,7 +48,7 @@ row o a =
     (λ s. of-sizes (o .size) (o .sectors) (o .lanes) (s .size-ok) (s .enough) (s .some-lane) (s .few-lanes))
     (λ _. asks (lengthAllowed n && eqb n m) (LengthOk n × (n ≡ m)) 1
     (λ e. let p = and-elim (lengthAllowed n) (eqb n m) e in (length-ok n (p .0), eqb-true n m (p .1)))
-    (λ p. and-intro (lengthAllowed n) (eqb n m) (of-length n (p .0 .multiple) (p .0 .least) (p .0 .most)) (eq-eqb n m (p .1)))
+    (λ p. and-intro (lengthAllowed n) (eqb n m) (ok-length n (p .0)) (eq-eqb n m (p .1)))
     (λ _. asks (eqb x 16 && eqb y 16) ((x ≡ 16) × (y ≡ 16)) 10
     (λ e. let p = and-elim (eqb x 16) (eqb y 16) e in (eqb-true x 16 (p .0), eqb-true y 16 (p .1)))
     (λ p. and-intro (eqb x 16) (eqb y 16) (eq-eqb x 16 (p .0)) (eq-eqb y 16 (p .1)))

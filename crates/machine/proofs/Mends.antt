@@ -11,12 +11,11 @@ use lib.Dec.{ltb}
 use lib.ListN.{length, take, length-append}
 use lib.Seq.{take-all, take-nil, take-append-le}
 use borrow.Author.Tests.{eqb-true, ltb-true}
-use Rattle.format.specs.Tests.{some}
 use Rattle.layout.specs.Place.{Layout, LayoutOk}
 use Rattle.format.proofs.Tests.{by-bool, all-elim}
 use Rattle.machine.specs.Stores.{stored, putAll}
 use Rattle.machine.specs.Flog.{mapBlock, flogWord, newerHalf, logged, freeOf, pending, spareOf}
-use Rattle.machine.specs.Opening.{laneReadable, mendStore, mends, pendingLanes, mended, count}
+use Rattle.machine.specs.Opening.{laneReadable, mendStore, mends, pendingLanes, count}
 use Rattle.machine.specs.Valid.{Readable}
 use Rattle.machine.proofs.Once.{hit, count-suc, count-change}
 use Rattle.machine.proofs.Stores.{Fits, Each, Arena, putAll-one, putAll-arena}
@@ -46,6 +45,15 @@ module _ (g : Layout) (a : List ℕ) where
       one : (t : Bool) → length (cond t (mendStore g a n ∷ []) []) ≡ cond t 1 0
       one true = refl
       one false = refl
+
+  -- where none of the lanes below n is pending
+  pub none-mended : (n : ℕ) → ((l : ℕ) → l < n → pending g a l ≡ false) → mends g a n ≡ []
+  unfolding mends
+  none-mended zero h = refl
+  none-mended (suc n) h = rw (none-mended n (λ l u. h l (omega arith)), h n (omega arith))
+
+  pub none-pending : (n : ℕ) → ((l : ℕ) → l < n → pending g a l ≡ false) → pendingLanes g a n ≡ 0
+  none-pending n h = sym (length-mends n) ∙ ap length (none-mended n h)
 
   -- the first k of the stores are those of the lanes below some n, and all where k is enough
   pub mends-take : (m k : ℕ) → (n : ℕ) × (n ≤ m) × (take k (mends g a m) ≡ mends g a n) × (pendingLanes g a m ≤ k → n ≡ m)

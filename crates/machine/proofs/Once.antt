@@ -11,6 +11,10 @@ use Rattle.layout.specs.Place.{Layout}
 use Rattle.format.proofs.Tests.{every-intro, every-elim}
 use Rattle.machine.specs.Opening.{count, eachOnce}
 
+pub at-most-one : (t : Bool) → cond t 1 0 ≤ 1
+at-most-one true = omega arith
+at-most-one false = omega arith
+
 -- 1 where the two are the same, else 0
 unfoldable pub hit : ℕ → ℕ → ℕ
 hit b x = cond (eqb b x) 1 0

@@ -1,16 +1,15 @@
 -- Laws of rule 16: the judgement of a lane's record and of a handle, outcome by outcome. The length of a struct's array field
 -- comes from what owning the struct tells of the field mapped.
-use mathlib.Core.Path.{_≡_, refl, sym, ap, _∙_}
-use mathlib.Core.Bool.{Bool, true, false, _&&_}
-use mathlib.Core.List.{List, [], _∷_, map}
-use Prim.Native.Nat.{ℕ, suc, _+_, _/_, _%_, _≤_, _<_}
+use mathlib.Core.Path.{_≡_, sym, ap, _∙_}
+use mathlib.Core.Bool.{Bool, true, false, and-true}
+use mathlib.Core.List.{List, map}
+use Prim.Native.Nat.{ℕ, _+_, _/_, _≤_, _<_}
 use native.Mathlib.Nat.{le-antisymm}
-use lib.ListN.{length}
-use lib.Dec.{eqb, leb, ltb}
-use borrow.Author.Tests.{lt-ltb, le-leb, leb-true, eq-eqb, ne-eqb}
+use lib.ListN.{length, length-map}
+use lib.Dec.{ltb}
+use borrow.Author.Tests.{lt-ltb, le-leb, eq-eqb, ne-eqb}
 use Rattle.format.specs.Tests.{every}
 use Rattle.layout.specs.Figures.{lengthAllowed, figuresAllowed}
-use Rattle.format.proofs.Tests.{and-elim}
 use Rattle.layout.specs.Place.{layoutOf}
 use Rattle.layout.specs.declared.Figures.{Figures}
 use Rattle.machine.specs.declared.lane.Lane.{Lane}
@@ -18,16 +17,8 @@ use Rattle.machine.specs.Lane.{laneAllowed}
 use Rattle.machine.specs.declared.handle.Handle.{Handle}
 use Rattle.machine.specs.Handle.{laneAt, handleAllowed}
 
-length-map : {A B : Type 0} (f : A → B) (l : List A) → length (map f l) ≡ length l
-length-map f [] = refl
-length-map f (x ∷ l) = ap suc (length-map f l)
-
 pub unmapped : {A B : Type 0} (f : A → B) (l : List A) (n : ℕ) → length (map f l) ≡ n → length l ≡ n
-unmapped f l n e = sym (length-map f l) ∙ e
-
-and-true : (t : Bool) → t ≡ t && true
-and-true true = refl
-and-true false = refl
+unmapped f l n e = sym (length-map l f) ∙ e
 
 -- a test that passed below i passes below n where i reached n
 pub every-end : (i n : ℕ) (t : ℕ → Bool) → i ≤ n → n ≤ i → every i t ≡ true → true ≡ every n t
@@ -38,7 +29,7 @@ pub lane-last : (f : Figures) (r : Lane) → r .block .0 < f .blocks → r .old 
     → r .sequence .0 ≤ 3 → r .sector .0 < f .sectors → ltb (r .made) (f .size / 4 + 5) ≡ laneAllowed (layoutOf f) r
 unfolding laneAllowed layoutOf
 lane-last f r b o h s t e =
-    rw (lt-ltb _ _ b, lt-ltb _ _ o, lt-ltb _ _ h, le-leb _ _ s, le-leb _ _ t, lt-ltb _ _ e) (and-true (ltb (r .made) (f .size / 4 + 5)))
+    rw (lt-ltb _ _ b, lt-ltb _ _ o, lt-ltb _ _ h, le-leb _ _ s, le-leb _ _ t, lt-ltb _ _ e) (sym (and-true (ltb (r .made) (f .size / 4 + 5))))
 
 -- what rule 16 gives, outcome by outcome
 module _ (h : Handle) (n : ℕ) where
@@ -58,7 +49,3 @@ module _ (h : Handle) (n : ℕ) where
       → every (h .figures .lanes) (λ l. laneAllowed (layoutOf (h .figures)) (laneAt (h .lanes) l)) ≡ handleAllowed h n
   unfolding handleAllowed
   handle-last p q r = rw (p, eq-eqb _ _ q, r)
-
--- an allowed length is at most 16 MiB
-pub length-most : (n : ℕ) → lengthAllowed n ≡ true → n ≤ 16777216
-length-most n e = leb-true n 16777216 (and-elim (leb 20480 n) _ (and-elim (eqb (n % 4096) 0) _ e .1) .1)

@@ -3,7 +3,7 @@
 use mathlib.Core.Path.{_≡_, refl, sym, ap, _∙_}
 use mathlib.Core.Logic.{_≢_}
 use mathlib.Core.List.{List}
-use mathlib.Core.Bool.{Bool, true, false, cond, not, _||_}
+use mathlib.Core.Bool.{true, false, not, _||_}
 use Prim.Native.Nat.{ℕ, zero, suc, _+_, _-_, _≤_, _<_}
 use native.Mathlib.Omega.{arith}
 use native.Mathlib.Decide.{ℕ-discrete, decLt}
@@ -14,7 +14,7 @@ use Rattle.format.proofs.Tests.{or-false}
 use Rattle.machine.specs.Flog.{mapBlock, logged, freeOf, pending}
 use Rattle.machine.specs.Opening.{laneReadable, mended, twoPending, count, eachOnce}
 use Rattle.machine.specs.Valid.{Pending, blockAt, EachOnce, Settled}
-use Rattle.machine.proofs.Once.{hit, hit-eq, count-suc, count-pos, count-one, count-where, Once, once-of, of-once}
+use Rattle.machine.proofs.Once.{at-most-one, hit, hit-eq, count-suc, count-pos, count-one, count-where, Once, once-of, of-once}
 use Rattle.machine.proofs.Stores.{Arena}
 use Rattle.machine.proofs.Mends.{readable-of, pending-old, mends-in}
 use Rattle.machine.proofs.Spare.{two-none, none-two}
@@ -33,11 +33,7 @@ count-unique (suc n) f b u =
         none (no h) = omega arith
 
     one : hit b (f n) ≤ 1
-    one = unfold hit in (bit (eqb b (f n)))
-      where
-        bit : (t : Bool) → cond t 1 0 ≤ 1
-        bit true = omega arith
-        bit false = omega arith
+    one = unfold hit in (at-most-one (eqb b (f n)))
 
     go : Dec (f n ≡ b) → Dec (0 < count n f b) → count n f b ≤ 1 → count n f b + hit b (f n) ≤ 1
     go (no d) _ ih = omega (arith, few d)

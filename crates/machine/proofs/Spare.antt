@@ -10,7 +10,7 @@ use lib.Dec.{eqb, leb}
 use borrow.Author.Tests.{eqb-true, eq-eqb, le-leb, lt-leb}
 use Rattle.format.specs.Tests.{every, some}
 use Rattle.layout.specs.Place.{Layout, LayoutOk}
-use Rattle.format.proofs.Tests.{every-same, true-false, by-bool, and-intro, and-elim, every-intro, every-elim, every-fails, every-false, some-intro, some-elim, some-true}
+use Rattle.format.proofs.Tests.{every-same, true-false, by-bool, and-intro, and-elim, every-intro, every-fails, some-intro, some-elim, some-true}
 use Rattle.machine.specs.Flog.{mapBlock, logged, freeOf, pending, spareOf}
 use Rattle.machine.specs.Opening.{laneReadable, mended, twoPending, count, eachOnce}
 use Rattle.machine.proofs.Once.{count-two, Once, once-of}

@@ -1,13 +1,17 @@
 -- The claims about making and opening.
 use mathlib.Core.Path.{_≡_}
-use mathlib.Core.Logic.{_≢_}
+use mathlib.Core.Logic.{_≢_, _⊎_}
 use mathlib.Core.List.{List, [], _∷_, _++_}
 use Prim.Native.Nat.{ℕ, _+_, _-_, _*_, _≤_, _<_}
 use lib.ListN.{length, getD, take, drop, replicate}
-use Rattle.format.specs.MapWord.{flagsOf, readingOf}
+use Rattle.format.specs.Sequence.{successor, newer}
+use Rattle.format.specs.MapWord.{flagsOf, readingOf, blockOf}
 use Rattle.layout.specs.Figures.{madeFigures}
+use Rattle.layout.specs.declared.Figures.{Figures}
+use Rattle.machine.specs.declared.lane.Lane.{Lane}
+use Rattle.machine.specs.declared.handle.Handle.{Handle}
 use Rattle.machine.specs.Rules.{First}
-use Rattle.machine.specs.Lane.{idleLane}
+use Rattle.machine.specs.Lane.{idleLane, noLane}
 use Rattle.machine.specs.Handle.{noHandle, laneAt}
 use Rattle.machine.specs.Flog.{mapWord}
 use Rattle.machine.specs.Making.{Order, makeOf}
@@ -74,6 +78,62 @@ pub record OpenedAgain (a work again : List ℕ) : Type 0 where
   pub arena : (openOf ((openOf a work) .arena) again) .arena ≡ (openOf a work) .arena
   pub handle : (openOf ((openOf a work) .arena) again) .handle ≡ (openOf a work) .handle
 
+-- ---- what opening finds and mends, in the bytes of the arena
+
+-- the little-endian word at byte o
+abbrev pub byteWord : List ℕ → ℕ → ℕ
+byteWord a o = getD a o 0 + 256 * getD a (o + 1) 0 + 65536 * getD a (o + 2) 0 + 16777216 * getD a (o + 3) 0
+
+-- the byte at which word k of half h of lane l starts: 0 sector, 1 old, 2 new, 3 sequence
+abbrev pub flogByte : Figures → ℕ → ℕ → ℕ → ℕ
+flogByte f l h k = f .flogoff + 64 * l + 16 * h + 4 * k
+
+-- the byte at which the map word of sector s starts
+abbrev pub mapByte : Figures → ℕ → ℕ
+mapByte f s = f .mapoff + 4 * s
+
+-- which half of lane l is the newer, by the two sequences
+unfoldable pub newerIn : List ℕ → ℕ → ℕ
+newerIn a l = newer (byteWord a (flogByte (figuresIn a) l 0 3)) (byteWord a (flogByte (figuresIn a) l 1 3))
+
+-- its sector, old, new and sequence
+unfoldable pub sectorIn : List ℕ → ℕ → ℕ
+sectorIn a l = byteWord a (flogByte (figuresIn a) l (newerIn a l) 0)
+
+unfoldable pub oldIn : List ℕ → ℕ → ℕ
+oldIn a l = byteWord a (flogByte (figuresIn a) l (newerIn a l) 1)
+
+unfoldable pub newIn : List ℕ → ℕ → ℕ
+newIn a l = byteWord a (flogByte (figuresIn a) l (newerIn a l) 2)
+
+unfoldable pub sequenceIn : List ℕ → ℕ → ℕ
+sequenceIn a l = byteWord a (flogByte (figuresIn a) l (newerIn a l) 3)
+
+-- a lane's free block is old; its next half is the other one, its next sequence the successor
+pub record LaneAsFound (a : List ℕ) (l : ℕ) (r : Lane) : Type 0 where
+  pub has-newer : newerIn a l < 2
+  pub record-is : r ≡ idleLane (oldIn a l) (1 - newerIn a l) (successor (sequenceIn a l))
+
+-- the handle has the arena's length and figures and a record of each lane; records past the lanes are zero
+pub record HandleAsFound (a : List ℕ) (h : Handle) : Type 0 where
+  pub size : h .length ≡ length a
+  pub figures : h .figures ≡ figuresIn a
+  pub lanes : (l : ℕ) → l < (figuresIn a) .lanes → LaneAsFound a l (laneAt (h .lanes) l)
+  pub past : (l : ℕ) → (figuresIn a) .lanes ≤ l → laneAt (h .lanes) l ≡ noLane
+
+-- the block of map[sector] equals old
+abbrev pub PendingIn : List ℕ → ℕ → Type 0
+PendingIn a l = blockOf (sectorIn a l) (byteWord a (mapByte (figuresIn a) (sectorIn a l))) ≡ oldIn a l
+
+-- map[sector] of each pending lane gets flags 11 and new, and no other byte changes
+pub record Mended (a after : List ℕ) : Type 0 where
+  pub size : length after ≡ length a
+  pub mapped : (l : ℕ) → l < (figuresIn a) .lanes → PendingIn a l → byteWord after (mapByte (figuresIn a) (sectorIn a l)) ≡ 3221225472 + newIn a l
+  pub kept : (j : ℕ)
+      → ((l : ℕ) → l < (figuresIn a) .lanes → PendingIn a l
+      → (j < mapByte (figuresIn a) (sectorIn a l)) ⊎ (mapByte (figuresIn a) (sectorIn a l) + 4 ≤ j))
+      → getD after j 0 ≡ getD a j 0
+
 -- all of it, for any bytes lent as an arena and any work buffers
 pub record OpeningClaim : Type 0 where
   pub answers : (a work : List ℕ) → Small a → OpeningAnswers a work
@@ -84,6 +144,8 @@ pub record OpeningClaim : Type 0 where
   pub cuts : (a work : List ℕ) (cuts : List Cut) → Small a → CutsLeaveNoTrace a work cuts
   pub count : (a work : List ℕ) → CountIsPending a work
   pub again : (a work again : List ℕ) → Small a → (openOf a work) .number ≡ 0 → (layoutIn a) .I ≤ length again → OpenedAgain a work again
+  pub handle : (a work : List ℕ) → Small a → (openOf a work) .number ≡ 0 → HandleAsFound a ((openOf a work) .handle)
+  pub mends : (a work : List ℕ) → Small a → (openOf a work) .number ≡ 0 → Mended a ((openOf a work) .arena)
 
 -- what making is lent: bytes, and numbers of 32 bits
 pub record Lent (o : Order) : Type 0 where

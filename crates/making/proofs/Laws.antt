@@ -1,13 +1,13 @@
 -- Laws of making: a fresh lane word by word, the flog lane by lane, the tail part by part, and the order of the refusals, outcome by outcome.
 use mathlib.Core.Path.{_≡_, refl, sym, ap, _∙_}
-use mathlib.Core.Bool.{Bool, true, false, not, _&&_}
+use mathlib.Core.Bool.{true, false, not, _&&_}
 use mathlib.Core.List.{List, _∷_, _++_, append-nil}
 use Prim.Native.Nat.{ℕ, zero, suc, _+_, _-_, _*_, _/_, _≤_, _<_}
 use native.Mathlib.Omega.{arith}
 use native.Mathlib.Numerals.{add-one}
 use lib.Dec.{eqb}
 use lib.ListN.{length, replicate, length-append, length-replicate}
-use borrow.Author.Tests.{eq-eqb, ne-eqb, eqb-true}
+use borrow.Author.Tests.{eq-eqb, ne-eqb, eqb-true, not-false}
 use Rattle.words.specs.Word.{putWord, putWords}
 use Rattle.words.proofs.Runs.{putWords-append}
 use Rattle.layout.specs.Figures.{lengthAllowed, sizesAllowed, madeLength, madeFigures, Allowed}
@@ -17,7 +17,7 @@ use Rattle.machine.specs.Making.{Order, makeNumber, freshLane, freshFlog, tailW
 use Rattle.format.proofs.Tests.{and-elim}
 use Rattle.layout.proofs.Allowed.{made-allowed, layout-ok, layout-exact}
 use Rattle.machine.proofs.Rows.{passed}
-use Rattle.machine.proofs.Rule16.{length-most}
+use Rattle.infoblock.proofs.InfoBlock.{length-of}
 use Rattle.layout.specs.Fit.{Fit}
 
 -- four words and a run, one store after the other
@@ -127,21 +127,17 @@ pub record Passed (o : Order) (n : ℕ) : Type 0 where
   pub first : length (o .first) ≡ 16
   pub second : length (o .second) ≡ 16
 
-not-not : (t : Bool) → not t ≡ false → t ≡ true
-not-not true e = refl
-not-not false e = sym e
-
 pub make-passed : (o : Order) (n : ℕ) → makeNumber o n ≡ 0 → Passed o n
 unfolding makeNumber
 make-passed o n e =
     let s = passed (not (sizesAllowed (o .size) (o .sectors) (o .lanes))) 2 _ e in
     let l = passed (not (lengthAllowed n && eqb n (madeLength (o .size) (o .sectors) (o .lanes)))) 0 _ (s .1) in
     let b = passed (not (eqb (length (o .first)) 16 && eqb (length (o .second)) 16)) 9 _ (l .1) in
-    let m = and-elim (lengthAllowed n) _ (not-not _ (l .0)) in
-    let i = and-elim (eqb (length (o .first)) 16) _ (not-not _ (b .0)) in
+    let m = and-elim (lengthAllowed n) _ (not-false _ (l .0)) in
+    let i = and-elim (eqb (length (o .first)) 16) _ (not-false _ (b .0)) in
     record {
-      sizes = not-not _ (s .0);
-      most = length-most n (m .0);
+      sizes = not-false _ (s .0);
+      most = length-of n (m .0) .2;
       made = eqb-true _ _ (m .1);
       first = eqb-true _ _ (i .0);
       second = eqb-true _ _ (i .1);

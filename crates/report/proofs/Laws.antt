@@ -9,7 +9,6 @@ use lib.ListN.{length, take, drop, replicate, length-append}
 use lib.Seq.{take-at}
 use borrow.Author.Tests.{lt-ltb, le-ltb, eqb-true}
 use Rattle.io.specs.Counts.{Counts}
-use Rattle.layout.specs.Figures.{Allowed}
 use Rattle.machine.specs.Opening.{Opening, openNumber, openOf, handleFor}
 use Rattle.machine.specs.declared.handle.Handle.{Handle}
 use Rattle.machine.proofs.Described.{described-figures}

@@ -1,4 +1,4 @@
--- `format::info::is_signed` meets its contract. The invariant: every word of the signature before k is right. A wrong word makes the whole test
+-- `is_signed` meets its contract. The invariant: every word of the signature before k is right. A wrong word makes the whole test
 -- false.
 use borrow.Author.Tests.{ne-eqb, eq-eqb}
 use borrow.Author.Needs.{needs}
@@ -7,9 +7,10 @@ use lib.Dec.{eqb}
 use Prim.Native.Nat.{_≤_, _-_}
 use mathlib.Core.Bool.{true}
 use mathlib.Core.Path.{_≡_, sym, refl, _∙_}
-use Rattle.infoblock.proofs.Signed.{every-more, every-fails, signature-word}
+use Rattle.infoblock.proofs.Signed.{signature-word}
 use Rattle.infoblock.specs.Info.{signature, signed}
 use Rattle.format.specs.Tests.{every}
+use Rattle.format.proofs.Tests.{every-more, every-fails}
 use Rattle.words.specs.Word.{word}
 use Rattle.infoblock.proofs.is_signed.Statement.{statement}
 use Rattle.infoblock.proofs.is_signed.Tie as tie
@@ -36,7 +37,7 @@ array-read-if1 c = search needs
 returns : tie.Need-returns Inv-loop μ-loop
 unfolding signed
 returns c =
-    sym (every-fails 4 (c .before .before .before .loop .k) _ (c .before .before .loop-test .taken) (ne-eqb _ _ (λ e. c .if1 .taken
+    sym (every-fails 4 _ (c .before .before .before .loop .k) (c .before .before .loop-test .taken) (ne-eqb _ _ (λ e. c .if1 .taken
     (c .before .word-at .ensures ∙ e ∙ sym (signature-word (c .before .before .before .loop .k) (c .before .before .loop-test .taken))))))
 
 add-k : tie.Need-add-k Inv-loop μ-loop

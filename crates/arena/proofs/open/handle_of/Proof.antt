@@ -1,11 +1,11 @@
-use Rattle.arena.proofs.Records.{records, records-none, records-length, records-more}
+-- `arena::open::handle_of` meets its contract. The loop's invariant: the records are those of the lanes passed, and zeroes.
+use Rattle.arena.proofs.Records.{records, records-none, records-more}
 use Rattle.arena.specs.Calls.{handleRead}
 use Rattle.layout.specs.Place.{layoutOf}
-use lib.ListN.{length, set}
 use borrow.Author.Needs.{needs}
 use native.Mathlib.Omega.{arith}
-use mathlib.Core.Path.{_≡_, refl, sym, ap, _∙_}
-use Prim.Native.Nat.{ℕ, _+_, _-_, _*_, _≤_, _<_}
+use mathlib.Core.Path.{_≡_}
+use Prim.Native.Nat.{_-_, _≤_, _<_}
 use Rattle.arena.proofs.open.handle_of.Statement.{statement}
 use Rattle.arena.proofs.open.handle_of.Tie as tie
 

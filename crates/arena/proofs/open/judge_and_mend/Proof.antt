@@ -1,3 +1,4 @@
+-- `arena::open::judge_and_mend` meets its contract: each way out is one of the four ends of a cut opening.
 use Rattle.arena.proofs.Ends.{info-ends, short-ends, fits, map-ends, can-mend, done-ends}
 use Rattle.arena.proofs.Opening.{outcome}
 use Rattle.machine.specs.Answer.{numberOf}
@@ -66,24 +67,30 @@ returns-3 c =
     let j = c .before .before .before .before .before .before .before .before .before .before .before .before .judge-info in
     let e = j .ensures .0 in
     let fe = j .ensures .1 in
-    let t = sym (c .before .before .before .before .before .before .before .before .before .before .is-done .ensures) ∙ not-false _ (c .before .before .before .before .before .before .before .before .before .if1 .left) in
+    let t = sym (c .before .before .before .before .before .before .before .before .before .before .is-done .ensures) ∙ not-false _ (c .before
+    .before .before .before .before .before .before .before .before .if1 .left) in
     let m = c .before .before .before .before .judge-map in
     let x = sym (c .before .is-done2 .ensures) ∙ not-true _ (c .if3 .taken) in (
       ap (λ (w : List ℕ). outcome (s .args .arena .now) (s .args .work .now) (numberOf (m .result)) 0 (s .args .arena .now) w) (m .ensures .1)
-          ∙ map-ends (s .args .arena .now) (s .args .work .now) (s .args .k) _ (j .result .figures) e fe t (c .before .before .before .before .before .before .before .if2 .left) _ (m .ensures .0) x,
+          ∙ map-ends (s .args .arena .now) (s .args .work .now) (s .args .k) _ (j .result .figures) e fe t (c .before .before .before .before .before
+          .before .before .if2 .left) _ (m .ensures .0) x,
       fe,
     )
 
 mend-requires : tie.Need-mend-requires
 mend-requires c κs =
-    let s = c .before .before .before .before .before .before .before .before .before .before .before .before .before .before .before .before .before in
+    let s = c .before .before .before .before .before .before .before .before .before .before .before .before .before .before .before .before .before
+    in
     let j = c .before .before .before .before .before .before .before .before .before .before .before .before .before .judge-info in
     let e = j .ensures .0 in
     let fe = j .ensures .1 in
-    let t = sym (c .before .before .before .before .before .before .before .before .before .before .before .is-done .ensures) ∙ not-false _ (c .before .before .before .before .before .before .before .before .before .before .if1 .left) in
+    let t = sym (c .before .before .before .before .before .before .before .before .before .before .before .is-done .ensures) ∙ not-false _ (c
+    .before .before .before .before .before .before .before .before .before .before .if1 .left) in
     let m = c .before .before .before .before .before .judge-map in
     let x = sym (c .before .before .is-done2 .ensures) ∙ not-false _ (c .before .if3 .left) in
-    can-mend (s .args .arena .now) (s .args .work .now) (s .args .k) _ (j .result .figures) e fe t (c .before .before .before .before .before .before .before .before .if2 .left) _ (m .ensures .0) x (λ i. c .before .before .before .before .before .before .before .before .before .before .before .before .before .before .before .before .slice-known .given i .fits)
+    can-mend (s .args .arena .now) (s .args .work .now) (s .args .k) _ (j .result .figures) e fe t (c .before .before .before .before .before .before
+    .before .before .if2 .left) _ (m .ensures .0) x (λ i. c .before .before .before .before .before .before .before .before .before .before .before
+    .before .before .before .before .before .slice-known .given i .fits)
 
 same-length-5 : tie.Need-same-length-5
 same-length-5 c = search needs
@@ -93,15 +100,21 @@ same-length-6 c = search needs
 
 returns-4 : tie.Need-returns-4
 returns-4 c =
-    let s = c .before .before .before .before .before .before .before .before .before .before .before .before .before .before .before .before .before .before .before .before in
-    let j = c .before .before .before .before .before .before .before .before .before .before .before .before .before .before .before .before .judge-info in
+    let s = c .before .before .before .before .before .before .before .before .before .before .before .before .before .before .before .before .before
+    .before .before .before in
+    let j = c .before .before .before .before .before .before .before .before .before .before .before .before .before .before .before .before
+    .judge-info in
     let e = j .ensures .0 in
     let fe = j .ensures .1 in
-    let t = sym (c .before .before .before .before .before .before .before .before .before .before .before .before .before .before .is-done .ensures) ∙ not-false _ (c .before .before .before .before .before .before .before .before .before .before .before .before .before .if1 .left) in
+    let t = sym (c .before .before .before .before .before .before .before .before .before .before .before .before .before .before .is-done .ensures)
+    ∙ not-false _ (c .before .before .before .before .before .before .before .before .before .before .before .before .before .if1 .left) in
     let m = c .before .before .before .before .before .before .before .before .judge-map in
     let x = sym (c .before .before .before .before .before .is-done2 .ensures) ∙ not-false _ (c .before .before .before .before .if3 .left) in (
-      ap (λ (w : List ℕ). outcome (s .args .arena .now) (s .args .work .now) (numberOf (m .result)) (c .before .before .mend .result) (c .before .before .mend .last .0) w) (m .ensures .1)
-          ∙ done-ends (s .args .arena .now) (s .args .work .now) (s .args .k) _ (j .result .figures) e fe t (c .before .before .before .before .before .before .before .before .before .before .before .if2 .left) _ (m .ensures .0) x _ _ (c .before .before .mend .ensures .0) (c .before .before .mend .ensures .1),
+      ap (λ (w : List ℕ). outcome (s .args .arena .now) (s .args .work .now) (numberOf (m .result)) (c .before .before .mend .result) (c .before
+          .before .mend .last .0) w) (m .ensures .1)
+          ∙ done-ends (s .args .arena .now) (s .args .work .now) (s .args .k) _ (j .result .figures) e fe t (c .before .before .before .before .before
+          .before .before .before .before .before .before .if2 .left) _ (m .ensures .0) x _ _ (c .before .before .mend .ensures .0) (c .before .before
+          .mend .ensures .1),
       fe,
     )
 

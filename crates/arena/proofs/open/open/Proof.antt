@@ -1,3 +1,4 @@
+-- `arena::open::open` meets its contract: its result is that of the cut opening with every store made, and the handle.
 use Rattle.arena.proofs.Opened.{refuses, readable, accepts}
 use borrow.Author.Tests.{not-true, not-false}
 use mathlib.Core.Path.{sym, _∙_}
@@ -25,14 +26,17 @@ returns c =
     let s = c .before .before .before .before .before .before .before .before .before .before .before .before .before in
     let j = c .before .before .before .before .before .before .before .before .judge-and-mend in
     let t = sym (c .before .before .is-done .ensures) ∙ not-true _ (c .before .if1 .taken) in
-    refuses (s .args .arena .now) (s .args .work .now) (j .last .0) (j .last .1 .0) _ (j .result .opened .mended) (j .ensures .0) t (c .no-handle .result) (c .no-handle .ensures)
+    refuses (s .args .arena .now) (s .args .work .now) (j .last .0) (j .last .1 .0) _ (j .result .opened .mended) (j .ensures .0) t (c .no-handle
+    .result) (c .no-handle .ensures)
 
 handle-of-requires : tie.Need-handle-of-requires
 handle-of-requires c κs =
     let s = c .before .before .before .before .before .before .before .before .before .before .before .before .before in
     let j = c .before .before .before .before .before .before .before .before .judge-and-mend in
     let t = sym (c .before .before .is-done .ensures) ∙ not-false _ (c .before .if1 .left) in
-    readable (s .args .arena .now) (s .args .work .now) (j .last .0) (j .last .1 .0) _ (j .result .opened .mended) (j .ensures .0) t (λ i. c .before .before .before .before .before .before .before .before .before .before .before .before .slice-known .given i .fits) (j .result .figures) (j .ensures .1)
+    readable (s .args .arena .now) (s .args .work .now) (j .last .0) (j .last .1 .0) _ (j .result .opened .mended) (j .ensures .0) t (λ i. c .before
+    .before .before .before .before .before .before .before .before .before .before .before .slice-known .given i .fits) (j .result .figures) (j
+    .ensures .1)
 
 same-length-3 : tie.Need-same-length-3
 same-length-3 c = search needs
@@ -45,7 +49,9 @@ returns-2 c =
     let s = c .before .before .before .before .before .before .before .before .before .before .before .before .before .before in
     let j = c .before .before .before .before .before .before .before .before .before .judge-and-mend in
     let t = sym (c .before .before .before .is-done .ensures) ∙ not-false _ (c .before .before .if1 .left) in
-    accepts (s .args .arena .now) (s .args .work .now) (j .last .0) (j .last .1 .0) _ (j .result .opened .mended) (j .ensures .0) t (λ i. c .before .before .before .before .before .before .before .before .before .before .before .before .before .slice-known .given i .fits) (j .result .figures) (j .ensures .1) (c .handle-of .result) (c .handle-of .ensures)
+    accepts (s .args .arena .now) (s .args .work .now) (j .last .0) (j .last .1 .0) _ (j .result .opened .mended) (j .ensures .0) t (λ i. c .before
+    .before .before .before .before .before .before .before .before .before .before .before .before .slice-known .given i .fits) (j .result .figures)
+    (j .ensures .1) (c .handle-of .result) (c .handle-of .ensures)
 
 pub open-spec : {M : Type 1} → statement M
 open-spec =

@@ -5,9 +5,8 @@ use Prim.Native.Nat.{_-_, _≤_}
 use native.Mathlib.Nat.{le-antisymm}
 use borrow.Author.Tests.{not-true, not-false}
 use borrow.Author.Needs.{needs}
-use Rattle.infoblock.proofs.Signed.{every-more}
 use Rattle.format.specs.Tests.{every}
-use Rattle.format.proofs.Tests.{every-zero, every-fails}
+use Rattle.format.proofs.Tests.{every-zero, every-more, every-fails}
 use Rattle.layout.specs.Place.{layoutOf}
 use Rattle.machine.specs.Opening.{laneReadable}
 use Rattle.judge.proofs.opening.lanes_readable.Statement.{statement}

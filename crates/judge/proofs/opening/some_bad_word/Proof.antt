@@ -6,10 +6,9 @@ use native.Mathlib.Nat.{le-antisymm}
 use borrow.Author.Needs.{needs}
 use Rattle.format.specs.MapWord.{badWord}
 use Rattle.format.specs.Tests.{some}
-use Rattle.format.proofs.Tests.{some-zero, some-found}
+use Rattle.format.proofs.Tests.{some-zero, some-more, some-found}
 use Rattle.layout.specs.Place.{layoutOf}
 use Rattle.machine.specs.Flog.{mapWord}
-use Rattle.judge.proofs.Rules.{some-more}
 use Rattle.judge.proofs.opening.some_bad_word.Statement.{statement}
 use Rattle.judge.proofs.opening.some_bad_word.Tie as tie
 

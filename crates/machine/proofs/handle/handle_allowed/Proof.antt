@@ -3,7 +3,8 @@ use mathlib.Core.Path.{sym, _∙_}
 use borrow.Author.Needs.{needs}
 use borrow.Author.Tests.{not-true, not-false}
 use Rattle.layout.proofs.Allowed.{allowed-of}
-use Rattle.machine.proofs.Rule16.{handle-length, handle-slice, handle-figures, handle-last, length-most}
+use Rattle.infoblock.proofs.InfoBlock.{length-of}
+use Rattle.machine.proofs.Rule16.{handle-length, handle-slice, handle-figures, handle-last}
 use Rattle.machine.proofs.handle.handle_allowed.Statement.{statement}
 use Rattle.machine.proofs.handle.handle_allowed.Tie as tie
 
@@ -21,7 +22,7 @@ returns-2 c =
 figures-allowed-requires : tie.Need-figures-allowed-requires
 figures-allowed-requires c κs =
     let p = c .before .before in
-    length-most _ (sym (p .before .length-allowed .ensures) ∙ not-false (p .before .length-allowed .result) (p .if1 .left))
+    length-of _ (sym (p .before .length-allowed .ensures) ∙ not-false (p .before .length-allowed .result) (p .if1 .left)) .2
 
 returns-3 : tie.Need-returns-3
 returns-3 c =

@@ -1,3 +1,4 @@
+-- `report::report::report` meets its contract: each way out is one law of the report.
 use Rattle.report.proofs.Laws.{counted, too-long, refused-report, opened-report, few-lanes}
 use Rattle.text.specs.Text.{refusedText, openedText}
 use Rattle.machine.specs.Answer.{numberOf}
@@ -22,8 +23,11 @@ put-refused-requires c κs = search needs
 returns : tie.Need-returns
 returns c =
     let s = c .before .before .before .before in
-    let p = c .put-refused .ensures in
-    (too-long (s .args .input .now) (s .args .out .now) (c .put-refused .last .0) _ (c .before .before .if1 .taken) (p .0) (p .1), counted (refusedText 1) (s .args .out .now) _ _ (p .0) (p .1))
+    let p = c .put-refused .ensures in (
+      too-long (s .args .input .now) (s .args .out .now) (c .put-refused .last .0) _ (c .before .before .if1 .taken) (p .0) (p .1),
+      counted
+          (refusedText 1) (s .args .out .now) _ _ (p .0) (p .1),
+    )
 
 -- src/report.rt:20:30
 slice-aggregate-open : tie.Need-slice-aggregate-open
@@ -57,7 +61,8 @@ returns-2 c =
     let u = c .before .before .before .before .before .before .before .before .before .before .before .if1 .left in
     let t = sym (c .before .before .before .before .is-done .ensures) ∙ not-true _ (c .before .before .before .if2 .taken) in
     let p = c .put-refused2 .ensures in (
-      refused-report (s .args .input .now) (o .last .0) (o .last .1 .0) (numberOf (o .result .answer)) (o .result .mended) (o .result .handle) u (o .ensures) t (c .before .number .result) (c .before .number .ensures) (s .args .out .now) (c .put-refused2 .last .0) _ (p .0) (p .1),
+      refused-report (s .args .input .now) (o .last .0) (o .last .1 .0) (numberOf (o .result .answer)) (o .result .mended) (o .result .handle) u (o
+          .ensures) t (c .before .number .result) (c .before .number .ensures) (s .args .out .now) (c .put-refused2 .last .0) _ (p .0) (p .1),
       counted (refusedText (c .before .number .result)) (s .args .out .now) _ _ (p .0) (p .1),
     )
 
@@ -68,7 +73,8 @@ put-opened-requires c κs =
     let o = c .before .before .before .before .before .before .«open» in
     let u = c .before .before .before .before .before .before .before .before .before .if1 .left in
     let t = sym (c .before .before .is-done .ensures) ∙ not-false _ (c .before .if2 .left) in
-    few-lanes (s .args .input .now) (o .last .0) (o .last .1 .0) (numberOf (o .result .answer)) (o .result .mended) (o .result .handle) u (o .ensures) t
+    few-lanes (s .args .input .now) (o .last .0) (o .last .1 .0) (numberOf (o .result .answer)) (o .result .mended) (o .result .handle) u (o
+    .ensures) t
 
 -- src/report.rt:12:1
 same-length-2 : tie.Need-same-length-2
@@ -82,7 +88,8 @@ returns-3 c =
     let u = c .before .before .before .before .before .before .before .before .before .before .if1 .left in
     let t = sym (c .before .before .before .is-done .ensures) ∙ not-false _ (c .before .before .if2 .left) in
     let p = c .put-opened .ensures in (
-      opened-report (s .args .input .now) (o .last .0) (o .last .1 .0) (numberOf (o .result .answer)) (o .result .mended) (o .result .handle) u (o .ensures) t (s .args .out .now) (c .put-opened .last .0) _ (p .0) (p .1),
+      opened-report (s .args .input .now) (o .last .0) (o .last .1 .0) (numberOf (o .result .answer)) (o .result .mended) (o .result .handle) u (o
+          .ensures) t (s .args .out .now) (c .put-opened .last .0) _ (p .0) (p .1),
       counted (openedText (o .result .handle) (o .result .mended)) (s .args .out .now) _ _ (p .0) (p .1),
     )
 

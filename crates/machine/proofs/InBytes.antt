@@ -1,0 +1,203 @@
+-- What opening finds and mends, in bytes. The starts are multiples of 4, so four times a word number is a byte number; the mended
+-- words and the other bytes are followed through the stores of the lanes one by one.
+use mathlib.Core.Path.{_≡_, refl, sym, ap, _∙_}
+use mathlib.Core.Logic.{_≢_, _⊎_, inl, inr}
+use mathlib.Core.List.{List, _++_}
+use mathlib.Core.Bool.{true}
+use Prim.Native.Nat.{ℕ, zero, suc, _+_, _-_, _*_, _/_, _≤_, _<_}
+use native.Mathlib.Omega.{arith}
+use native.Mathlib.Decide.{ℕ-discrete, decLt}
+use lib.ListN.{length, getD, replicate, getD-replicate, length-replicate, List·getD-eq-default}
+use lib.Seq.{getD-append-add}
+use Rattle.words.specs.Word.{word}
+use Rattle.words.proofs.Laws.{getD-putWord-other}
+use Rattle.format.specs.Sequence.{successor}
+use Rattle.format.specs.MapWord.{blockOf, mappedTo}
+use Rattle.format.proofs.Tests.{by-bool}
+use Rattle.layout.specs.Figures.{maxLanes}
+use Rattle.layout.specs.Place.{Layout, layoutOf, at, inMap, inFlog}
+use Rattle.layout.proofs.Allowed.{starts-exact}
+use Rattle.machine.specs.declared.lane.Lane.{Lane}
+use Rattle.machine.specs.Lane.{idleLane, noLane}
+use Rattle.machine.specs.Handle.{laneAt}
+use Rattle.machine.specs.Stores.{putAll}
+use Rattle.machine.specs.Flog.{mapWord, flogWord, newerHalf, logged, pending}
+use Rattle.machine.specs.Opening.{figuresIn, layoutIn, mendStore, mends, mended, foundLane, handleFor, openOf}
+use Rattle.machine.specs.Valid.{Small}
+use Rattle.machine.specs.Claims.{
+  byteWord,
+  flogByte,
+  mapByte,
+  newerIn,
+  sectorIn,
+  oldIn,
+  newIn,
+  sequenceIn,
+  LaneAsFound,
+  HandleAsFound,
+  PendingIn,
+  Mended,
+}
+use Rattle.machine.proofs.Stores.{elsewhere, stored-word, putAll-length}
+use Rattle.machine.proofs.MapStores.{map-fits}
+use Rattle.machine.proofs.Mends.{readable-of, pending-old, mends-more, mends-same, mends-arena}
+use Rattle.machine.proofs.Spare.{two-none}
+use Rattle.machine.proofs.Settled.{of-pending}
+use Rattle.machine.proofs.Lanes.{listed, listed-length, listed-at, found-listed}
+use Rattle.machine.proofs.Ghosts.{Judged}
+use Rattle.machine.proofs.Described.{Described, described-figures}
+use Rattle.machine.proofs.Opens.{open-zero, opens-judged}
+
+-- ---- the mended map by word numbers
+
+module _ (g : Layout) (a : List ℕ) (j : Judged g a) where
+  -- the map word of a pending lane below n
+  word-mended : (n l : ℕ) → n ≤ g .N → l < n → pending g a l ≡ true
+      → word (putAll g (mends g a n) a) (at g (inMap (logged g a l 0))) ≡ mappedTo (logged g a l 2)
+  word-mended zero l u v p = absurd (omega arith)
+  word-mended (suc n) l u v p = go (ℕ-discrete l n) (λ w. word-mended n l (omega arith) w p)
+    where
+      sector-in : (m : ℕ) → m < g .N → logged g a m 0 < g .E
+      sector-in m w = readable-of g a m (j .lanes m w) .sector
+
+      go : Dec (l ≡ n) → (l < n → word (putAll g (mends g a n) a) (at g (inMap (logged g a l 0))) ≡ mappedTo (logged g a l 2))
+          → word (putAll g (mends g a (suc n)) a) (at g (inMap (logged g a l 0))) ≡ mappedTo (logged g a l 2)
+      go (yes e) ih =
+          let t : pending g a n ≡ true = rw e at p in
+          let r = mends-arena g (j .ok) a (j .arena) (j .lanes) n in
+          let h = readable-of g a n (j .lanes n u) in
+          rw (e, mends-more g a n t)
+          (stored-word g (j .ok) (putAll g (mends g a n) a) (mendStore g a n) r
+          (map-fits g (j .ok) (putAll g (mends g a n) a) r (logged g a n 0) (logged g a n 2) (h .sector) (h .new)))
+      go (no d) ih = by-bool (pending g a n) _
+          (λ t. rw (mends-more g a n t)
+          (elsewhere g (j .ok) (putAll g (mends g a n) a) (inMap (logged g a n 0)) (inMap (logged g a l 0)) (mappedTo (logged g a n 2))
+          (sector-in n u) (sector-in l (omega arith)) (λ q. two-none g a (j .apart) n l u (omega arith) t p (cc)) ∙ ih (omega arith)))
+          (λ t. rw (mends-same g a n t) (ih (omega arith)))
+
+  -- a byte that is in the map word of no pending lane below n
+  byte-kept : (n k : ℕ) → n ≤ g .N → ((l : ℕ) → l < n → pending g a l ≡ true → k / 4 ≢ at g (inMap (logged g a l 0)))
+      → getD (putAll g (mends g a n) a) k 0 ≡ getD a k 0
+  byte-kept zero k u f = unfold mends putAll in refl
+  byte-kept (suc n) k u f =
+      let ih = byte-kept n k (omega arith) (λ l v. f l (omega arith)) in
+      by-bool (pending g a n) _
+      (λ t. rw (mends-more g a n t) (getD-putWord-other _ _ _ k (f n (omega arith) t) ∙ ih))
+      (λ t. rw (mends-same g a n t) ih)
+
+-- ---- words by their bytes
+
+module _ (a : List ℕ) (d : Described a) where
+  flog-bytes : (l h k : ℕ) → flogWord (layoutIn a) a l h k ≡ byteWord a (flogByte (figuresIn a) l h k)
+  unfolding layoutOf word
+  flog-bytes l h k =
+      let s = starts-exact (figuresIn a) (length a) (described-figures a d) in
+      let e : 4 * at (layoutIn a) (inFlog l h k) ≡ flogByte (figuresIn a) l h k = omega (arith, s .2) in
+      ap (byteWord a) e
+
+  map-start : (s : ℕ) → 4 * at (layoutIn a) (inMap s) ≡ mapByte (figuresIn a) s
+  unfolding layoutOf
+  map-start s = omega (arith, starts-exact (figuresIn a) (length a) (described-figures a d) .1)
+
+  map-bytes : (x : List ℕ) (s : ℕ) → mapWord (layoutIn a) x s ≡ byteWord x (mapByte (figuresIn a) s)
+  unfolding word
+  map-bytes x s = ap (byteWord x) (map-start s)
+
+  newer-bytes : (l : ℕ) → newerHalf (layoutIn a) a l ≡ newerIn a l
+  unfolding newerHalf newerIn
+  newer-bytes l = rw (flog-bytes l 0 3, flog-bytes l 1 3)
+
+  logged-bytes : (l k : ℕ) → logged (layoutIn a) a l k ≡ byteWord a (flogByte (figuresIn a) l (newerIn a l) k)
+  logged-bytes l k = ap (λ (h : ℕ). flogWord (layoutIn a) a l h k) (newer-bytes l) ∙ flog-bytes l (newerIn a l) k
+
+  sector-bytes : (l : ℕ) → logged (layoutIn a) a l 0 ≡ sectorIn a l
+  unfolding sectorIn
+  sector-bytes l = logged-bytes l 0
+
+  old-bytes : (l : ℕ) → logged (layoutIn a) a l 1 ≡ oldIn a l
+  unfolding oldIn
+  old-bytes l = logged-bytes l 1
+
+  new-bytes : (l : ℕ) → logged (layoutIn a) a l 2 ≡ newIn a l
+  unfolding newIn
+  new-bytes l = logged-bytes l 2
+
+  sequence-bytes : (l : ℕ) → logged (layoutIn a) a l 3 ≡ sequenceIn a l
+  unfolding sequenceIn
+  sequence-bytes l = logged-bytes l 3
+
+  -- pending in bytes and by word numbers
+  block-bytes : (l : ℕ) → blockOf (sectorIn a l) (byteWord a (mapByte (figuresIn a) (sectorIn a l)))
+      ≡ blockOf (logged (layoutIn a) a l 0) (mapWord (layoutIn a) a (logged (layoutIn a) a l 0))
+  block-bytes l = rw (sector-bytes l, map-bytes a (sectorIn a l))
+
+  of-bytes : (l : ℕ) → PendingIn a l → pending (layoutIn a) a l ≡ true
+  of-bytes l p = of-pending (layoutIn a) a l (sym (block-bytes l) ∙ p ∙ sym (old-bytes l))
+
+  to-bytes : (l : ℕ) → pending (layoutIn a) a l ≡ true → PendingIn a l
+  to-bytes l t = block-bytes l ∙ pending-old (layoutIn a) a l t ∙ old-bytes l
+
+  -- a byte outside a map word is in another word
+  outside : (k s : ℕ) → (k < mapByte (figuresIn a) s) ⊎ (mapByte (figuresIn a) s + 4 ≤ k) → k / 4 ≢ at (layoutIn a) (inMap s)
+  outside k s (inl u) e = omega (arith, map-start s)
+  outside k s (inr u) e = omega (arith, map-start s)
+
+-- ---- the handle and the arena of an opening
+
+zero-past : (n i : ℕ) → laneAt (replicate n noLane) i ≡ noLane
+zero-past n i = go (decLt i n)
+  where
+    go : Dec (i < n) → laneAt (replicate n noLane) i ≡ noLane
+    go (yes h) = getD-replicate n i noLane noLane h
+    go (no h) = List·getD-eq-default (replicate n noLane) noLane (rw length-replicate (omega arith))
+
+module _ (a : List ℕ) (d : Described a) (j : Judged (layoutIn a) a) where
+  found : List Lane
+  found = listed (foundLane (layoutIn a) a) ((figuresIn a) .lanes)
+
+  lanes-are : (handleFor a) .lanes ≡ found ++ replicate (maxLanes - (figuresIn a) .lanes) noLane
+  unfolding handleFor layoutOf found
+  lanes-are = ap (λ (x : List Lane). x ++ replicate (maxLanes - (figuresIn a) .lanes) noLane) (found-listed (layoutIn a) a ((figuresIn a) .lanes))
+
+  lane-found : (l : ℕ) → l < (figuresIn a) .lanes → LaneAsFound a l (laneAt ((handleFor a) .lanes) l)
+  unfolding layoutOf found
+  lane-found l u = record {
+    has-newer = rw (newer-bytes a d l) at (readable-of (layoutIn a) a l (j .lanes l u) .newer);
+    record-is = ap (λ (x : List Lane). laneAt x l) lanes-are ∙ listed-at (foundLane (layoutIn a) a) ((figuresIn a) .lanes) l _ u
+        ∙ (λ i. idleLane (old-bytes a d l i) (1 - newer-bytes a d l i) (successor (sequence-bytes a d l i)));
+  }
+
+  lane-past : (l : ℕ) → (figuresIn a) .lanes ≤ l → laneAt ((handleFor a) .lanes) l ≡ noLane
+  unfolding found
+  lane-past l u =
+      let n = listed-length (foundLane (layoutIn a) a) ((figuresIn a) .lanes) in
+      let e : length found + (l - (figuresIn a) .lanes) ≡ l = omega (arith, n) in
+      ap (λ (x : List Lane). laneAt x l) lanes-are
+      ∙ ap (laneAt (found ++ replicate (maxLanes - (figuresIn a) .lanes) noLane)) (sym e)
+      ∙ getD-append-add found (replicate (maxLanes - (figuresIn a) .lanes) noLane) (l - (figuresIn a) .lanes) noLane
+      ∙ zero-past (maxLanes - (figuresIn a) .lanes) (l - (figuresIn a) .lanes)
+
+  handle-found : HandleAsFound a (handleFor a)
+  handle-found = record { size = unfold handleFor in refl; figures = unfold handleFor in refl; lanes = lane-found; past = lane-past }
+
+  arena-mended : Mended a (mended (layoutIn a) a)
+  unfolding layoutOf
+  arena-mended = record {
+    size = putAll-length (layoutIn a) (mends (layoutIn a) a ((figuresIn a) .lanes)) a;
+    mapped = λ l u p.
+        sym (map-bytes a d (mended (layoutIn a) a) (sectorIn a l))
+        ∙ ap (mapWord (layoutIn a) (mended (layoutIn a) a)) (sym (sector-bytes a d l))
+        ∙ word-mended (layoutIn a) a j ((figuresIn a) .lanes) l (omega arith) u (of-bytes a d l p)
+        ∙ ap mappedTo (new-bytes a d l);
+    kept = λ k f. byte-kept (layoutIn a) a j ((figuresIn a) .lanes) k (omega arith)
+        (λ l u t. rw (sector-bytes a d l) (outside a d k (sectorIn a l) (f l u (to-bytes a d l t))));
+  }
+
+module _ (a work : List ℕ) (small : Small a) (e : (openOf a work) .number ≡ 0) where
+  pub handle-as-found : HandleAsFound a ((openOf a work) .handle)
+  unfolding openOf
+  handle-as-found = let o = open-zero a (length work) e .0 in rw e (handle-found a (o .info) (opens-judged a o small))
+
+  pub opening-mends : Mended a ((openOf a work) .arena)
+  unfolding openOf
+  opening-mends = let o = open-zero a (length work) e .0 in rw e (arena-mended a (o .info) (opens-judged a o small))
