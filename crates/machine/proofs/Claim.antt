@@ -1,7 +1,7 @@
 -- The claim about opening: what opening answers, that a refusal changes nothing, that cut openings leave no trace, what it counts, finds and mends.
 -- The parts are proved in the modules that it cites; the rest follows from the tests of the answer.
 use mathlib.Core.Path.{_≡_, refl, sym, ap}
-use mathlib.Core.Logic.{_≢_}
+use mathlib.Core.Logic.{_≢_, ⊎-elim}
 use mathlib.Core.List.{List}
 use mathlib.Core.Bool.{Bool, true, false, cond, not, _&&_}
 use Prim.Native.Nat.{ℕ, _-_, _≤_}
@@ -26,13 +26,13 @@ use Rattle.machine.proofs.Cuts.{cuts-no-trace}
 use Rattle.machine.proofs.InBytes.{handle-as-found, opening-mends}
 
 module _ (a work : List ℕ) where
-  refused-open : (openOf a work) .number ≢ 0 → RefusedOpening a work (openOf a work)
+  refused-open : (openOf a work) .number ≢ 0 → RefusedOpening a (openOf a work)
   unfolding openOf
   refused-open n =
       let e = ne-eqb (openNumber a (length work)) 0 n in
       record { arena = rw e; handle = rw e; mended = rw e }
 
-  refused-cut : (k : ℕ) → (openOf a work) .number ≢ 0 → RefusedOpening a work (cutOpenOf a work k)
+  refused-cut : (k : ℕ) → (openOf a work) .number ≢ 0 → RefusedOpening a (cutOpenOf a work k)
   unfolding openOf cutOpenOf
   refused-cut k n =
       let e = ne-eqb (openNumber a (length work)) 0 n in
@@ -76,8 +76,7 @@ module _ (a work : List ℕ) where
   unfolding openOf workAfter
   work-after = record {
     alone = λ p q. rw (le-leb 1 _ p, le-leb _ 5 q);
-    cleared = λ _ p. rw (le-leb 1 (openNumber a (length work)) (omega arith), lt-leb (openNumber a (length work)) 5 p);
-    opened = λ e. rw e;
+    cleared = ⊎-elim (λ e. rw e) (λ p. rw (le-leb 1 (openNumber a (length work)) (omega arith), lt-leb (openNumber a (length work)) 5 p));
     size = by-bool (leb 1 (openNumber a (length work)) && leb (openNumber a (length work)) 5) _
         (λ t. rw t) (λ t. let h = room-enough t in rw (t, length-append, length-replicate, length-drop) (omega arith));
   }

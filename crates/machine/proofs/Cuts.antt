@@ -1,11 +1,12 @@
 -- Cut openings leave no trace: of a valid arena each makes some of the mending stores or none, and of another none is accepted.
-use mathlib.Core.Path.{_≡_, refl, ap, _∙_}
+use mathlib.Core.Path.{_≡_, refl, sym, ap, _∙_}
+use mathlib.Core.Logic.{_≢_}
 use mathlib.Core.List.{List, [], _∷_}
 use mathlib.Core.Bool.{Bool, true, false, cond}
 use Prim.Native.Nat.{ℕ, _≤_}
 use native.Mathlib.Omega.{arith}
 use native.Mathlib.Decide.{ℕ-discrete}
-use lib.Dec.{eqb}
+use lib.Dec.{eqb, ltb}
 use lib.ListN.{length, take}
 use borrow.Author.Tests.{eqb-true}
 use Rattle.machine.specs.Stores.{Store, putAll}
@@ -13,7 +14,7 @@ use Rattle.machine.specs.Opening.{layoutIn, mends, mended, openNumber, o
 use Rattle.machine.specs.Valid.{Small}
 use Rattle.machine.specs.Claims.{Cut, afterCuts, CutsLeaveNoTrace}
 use Rattle.machine.proofs.Mends.{mends-take}
-use Rattle.machine.proofs.Opens.{Opens, open-zero, zero-open}
+use Rattle.machine.proofs.Opens.{Opens, open-zero, open-number, zero-open}
 use Rattle.machine.proofs.Kept.{kept-small, kept-opens, kept-number, kept-mended, kept-handle, kept-work}
 
 -- whether an arena opens, given room
@@ -73,6 +74,15 @@ module _ (work : List ℕ) where
   unfolding openOf
   same-work a o s n u = kept-work a o s n u work
 
+  -- an arena that opens is refused only for want of room
+  room-for : (a : List ℕ) → Opens a → (openOf a work) .number ≢ 5 → (openOf a work) .number ≡ 0
+  unfolding openOf
+  room-for a o e = go (ltb (length work) ((layoutIn a) .I)) (open-number a (length work) o)
+    where
+      go : (t : Bool) → openNumber a (length work) ≡ cond t 5 0 → openNumber a (length work) ≡ 0
+      go true f = absurd (e f)
+      go false f = f
+
   cuts-kept : (cuts : List Cut) (a : List ℕ) → Opens a → Small a → CutsLeaveNoTrace a work cuts
   unfolding afterCuts
   cuts-kept [] a o s = record { number = refl; arena = λ _. refl; handle = refl; work-buffer = refl }
@@ -83,7 +93,7 @@ module _ (work : List ℕ) where
       let ih = cuts-kept cs (putAll (layoutIn a) (mends (layoutIn a) a n) a) (kept-opens a o s n u) (kept-small a o s n u) in
       record {
         number = rw (q .2) (ih .number ∙ same-number a o s n u);
-        arena = λ e. rw (q .2) (ih .arena (same-number a o s n u ∙ e) ∙ same-arena a o s n u e);
+        arena = λ e. rw (q .2) (ih .arena (λ z. e (sym (same-number a o s n u) ∙ z)) ∙ same-arena a o s n u (room-for a o e));
         handle = rw (q .2) (ih .handle ∙ same-handle a o s n u);
         work-buffer = rw (q .2) (ih .work-buffer ∙ same-work a o s n u);
       }

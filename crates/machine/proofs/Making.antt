@@ -20,7 +20,7 @@ use Rattle.machine.specs.Flog.{mapWord}
 use Rattle.machine.specs.Making.{Order, makeNumber, makeOf, madeArena, dataEnd}
 use Rattle.machine.specs.Opening.{layoutIn, openOf, mended}
 use Rattle.machine.specs.Valid.{Small, LengthOk, SizesOk, makeRow}
-use Rattle.machine.specs.Claims.{Lent, MadeArena, smallest, MakingClaim}
+use Rattle.machine.specs.Claims.{OrderOk, MadeArena, smallest, MakingClaim}
 use Rattle.machine.proofs.Rows.{passed, first-of, asks, end}
 use Rattle.machine.proofs.Reflect.{length-ok, ok-length}
 use Rattle.machine.proofs.MadeValid.{
@@ -39,13 +39,20 @@ use Rattle.machine.proofs.MadeValid.{
   opened-lane,
 }
 
+sizes-ok : (o : Order) → sizesAllowed (o .size) (o .sectors) (o .lanes) ≡ true → SizesOk (o .size) (o .sectors) (o .lanes)
+sizes-ok o e =
+    let h = sizes-of (o .size) (o .sectors) (o .lanes) e in
+    record { size-ok = h .0; enough = h .1; some-lane = h .2; few-lanes = h .3 }
+
+ok-sizes : (o : Order) → SizesOk (o .size) (o .sectors) (o .lanes) → sizesAllowed (o .size) (o .sectors) (o .lanes) ≡ true
+ok-sizes o s = of-sizes (o .size) (o .sectors) (o .lanes) (s .size-ok) (s .enough) (s .some-lane) (s .few-lanes)
+
 row : (o : Order) (a : List ℕ) → First (makeRow o (length a)) ((makeOf o a) .number)
 unfolding makeRow makeOf makeNumber
 row o a =
     first-of
     (asks (sizesAllowed (o .size) (o .sectors) (o .lanes)) (SizesOk (o .size) (o .sectors) (o .lanes)) 3
-    (λ e. let h = sizes-of (o .size) (o .sectors) (o .lanes) e in record { size-ok = h .0; enough = h .1; some-lane = h .2; few-lanes = h .3 })
-    (λ s. of-sizes (o .size) (o .sectors) (o .lanes) (s .size-ok) (s .enough) (s .some-lane) (s .few-lanes))
+    (sizes-ok o) (ok-sizes o)
     (λ _. asks (lengthAllowed n && eqb n m) (LengthOk n × (n ≡ m)) 1
     (λ e. let p = and-elim (lengthAllowed n) (eqb n m) e in (length-ok n (p .0), eqb-true n m (p .1)))
     (λ p. and-intro (lengthAllowed n) (eqb n m) (ok-length n (p .0)) (eq-eqb n m (p .1)))
@@ -78,21 +85,34 @@ one : (makeOf smallest (replicate 20480 0)) .number ≡ 0
 unfolding makeOf
 one = ap (makeNumber smallest) (length-replicate {A = ℕ} 20480 0) ∙ one-number
 
--- what an accepted order gives
-record Accepted (o : Order) (n : ℕ) : Type 0 where
-  pub sizes : sizesAllowed (o .size) (o .sectors) (o .lanes) ≡ true
-  pub size : lengthAllowed n ≡ true
-  pub exact : n ≡ madeLength (o .size) (o .sectors) (o .lanes)
-
-accepted : (o : Order) (n : ℕ) → makeNumber o n ≡ 0 → Accepted o n
-unfolding makeNumber
-accepted o n e =
+accepts : (o : Order) (a : List ℕ) → (makeOf o a) .number ≡ 0 → OrderOk o (length a)
+unfolding makeOf makeNumber
+accepts o a e =
+    let n = length a in
     let m = madeLength (o .size) (o .sectors) (o .lanes) in
-    let s = sizesAllowed (o .size) (o .sectors) (o .lanes) in
-    let p = passed (not s) 2 _ e in
+    let p = passed (not (sizesAllowed (o .size) (o .sectors) (o .lanes))) 2 _ e in
     let q = passed (not (lengthAllowed n && eqb n m)) 0 _ (p .1) in
-    let r = and-elim (lengthAllowed n) (eqb n m) (not-false _ (q .0)) in
-    record { sizes = not-false s (p .0); size = r .0; exact = eqb-true n m (r .1) }
+    let r = passed (not (eqb (length (o .first)) 16 && eqb (length (o .second)) 16)) 9 _ (q .1) in
+    let l = and-elim (lengthAllowed n) (eqb n m) (not-false _ (q .0)) in
+    let i = and-elim (eqb (length (o .first)) 16) (eqb (length (o .second)) 16) (not-false _ (r .0)) in
+    record {
+      sizes = sizes-ok o (not-false _ (p .0));
+      size = length-ok n (l .0);
+      exact = eqb-true n m (l .1);
+      first = eqb-true _ 16 (i .0);
+      second = eqb-true _ 16 (i .1);
+    }
+
+only : (o : Order) (a : List ℕ) → OrderOk o (length a) → (makeOf o a) .number ≡ 0
+unfolding makeOf makeNumber
+only o a k =
+    rw (
+      ok-sizes o (k .sizes),
+      ok-length (length a) (k .size),
+      eq-eqb (length a) (madeLength (o .size) (o .sectors) (o .lanes)) (k .exact),
+      eq-eqb (length (o .first)) 16 (k .first),
+      eq-eqb (length (o .second)) 16 (k .second),
+    )
 
 -- the made layout's sectors, lanes and blocks
 module _ (size sectors lanes : ℕ) where
@@ -115,13 +135,12 @@ module _ (size sectors lanes : ℕ) where
       let z : size % 4 ≡ 0 = ⊎-elim (λ e. omega arith) (λ e. omega arith) h in
       omega (arith, quarter (sectors + lanes) size z)
 
-module _ (o : Order) (a : List ℕ) (small : Small a) (lent : Lent o) (e : (makeOf o a) .number ≡ 0) where
+module _ (o : Order) (a : List ℕ) (small : Small a) (first : Small (o .first)) (second : Small (o .second)) (e : (makeOf o a) .number ≡ 0) where
   figures : Figures
   figures = madeFigures (o .size) (o .sectors) (o .lanes)
 
-  order : Accepted o (length a)
-  unfolding makeOf
-  order = accepted o (length a) e
+  order : OrderOk o (length a)
+  order = accepts o a e
 
   arena : (makeOf o a) .arena ≡ madeOf (o .first) (o .second) figures a
   unfolding makeOf madeArena figures
@@ -129,10 +148,10 @@ module _ (o : Order) (a : List ℕ) (small : Small a) (lent : Lent o) (e : (make
 
   ok : Allowed figures (length a)
   unfolding figures
-  ok = rw (order .exact) (made-allowed (o .size) (o .sectors) (o .lanes) (order .sizes))
+  ok = rw (order .exact) (made-allowed (o .size) (o .sectors) (o .lanes) (ok-sizes o (order .sizes)))
 
   given : Given (o .first) (o .second) figures a
-  given = record { first-small = lent .first; second-small = lent .second; small = small; ok = ok; size = order .size }
+  given = record { first-small = first; second-small = second; small = small; ok = ok; size = ok-length (length a) (order .size) }
 
   made-layout : layoutIn (madeOf (o .first) (o .second) figures a) ≡ layoutOf figures
   made-layout = layout-in (o .first) (o .second) figures a given
@@ -151,7 +170,7 @@ module _ (o : Order) (a : List ℕ) (small : Small a) (lent : Lent o) (e : (make
 
   data-end : 4 * dataEnd (layoutOf figures) ≡ 4096 + (o .sectors + o .lanes) * o .size
   unfolding figures
-  data-end = made-data (o .size) (o .sectors) (o .lanes) (sizes-of (o .size) (o .sectors) (o .lanes) (order .sizes) .0)
+  data-end = made-data (o .size) (o .sectors) (o .lanes) (order .sizes .size-ok)
 
   map-zero : (s : ℕ) → s < o .sectors → mapWord (layoutIn (madeOf (o .first) (o .second) figures a)) (madeOf (o .first) (o .second) figures a) s ≡ 0
   map-zero s u = fresh (o .first) (o .second) figures a given .map s (omega (arith, sectors-in))
@@ -175,4 +194,4 @@ module _ (o : Order) (a : List ℕ) (small : Small a) (lent : Lent o) (e : (make
   }
 
 pub making-claim : MakingClaim
-making-claim = record { row = row; refused = refused; made = made-arena; one = one }
+making-claim = record { row = row; accepts = accepts; only = only; refused = refused; made = made-arena; one = one }

@@ -6,7 +6,7 @@ use Prim.Native.Nat.{ℕ, _+_, _-_, _*_, _≤_, _<_}
 use lib.ListN.{length, getD, take, drop, replicate}
 use Rattle.format.specs.Sequence.{successor, newer}
 use Rattle.format.specs.MapWord.{flagsOf, readingOf, blockOf}
-use Rattle.layout.specs.Figures.{madeFigures}
+use Rattle.layout.specs.Figures.{madeLength, madeFigures}
 use Rattle.layout.specs.declared.Figures.{Figures}
 use Rattle.machine.specs.declared.lane.Lane.{Lane}
 use Rattle.machine.specs.declared.handle.Handle.{Handle}
@@ -16,7 +16,7 @@ use Rattle.machine.specs.Handle.{noHandle, laneAt}
 use Rattle.machine.specs.Flog.{mapWord}
 use Rattle.machine.specs.Making.{Order, makeOf}
 use Rattle.machine.specs.Opening.{figuresIn, layoutIn, mends, pendingLanes, openNumber, openOf, cutOpenOf, Opening}
-use Rattle.machine.specs.Valid.{Small, Valid, openRow, makeRow}
+use Rattle.machine.specs.Valid.{Small, Valid, openRow, makeRow, LengthOk, SizesOk}
 
 -- opening answers 0 exactly if the arena is valid and the work buffer has I bytes or more;
 -- each of 1 to 8 is given exactly when its condition holds and none before it in the row does
@@ -26,7 +26,7 @@ pub record OpeningAnswers (a work : List ℕ) : Type 0 where
   pub only : Valid a → (layoutIn a) .I ≤ length work → (openOf a work) .number ≡ 0
 
 -- a refused opening leaves the arena, gives a handle of zeroes and counts nothing
-pub record RefusedOpening (a work : List ℕ) (o : Opening) : Type 0 where
+pub record RefusedOpening (a : List ℕ) (o : Opening) : Type 0 where
   pub arena : o .arena ≡ a
   pub handle : o .handle ≡ noHandle
   pub mended : o .mended ≡ 0
@@ -35,9 +35,8 @@ pub record RefusedOpening (a work : List ℕ) (o : Opening) : Type 0 where
 pub record WorkAfter (a work : List ℕ) (o : Opening) : Type 0 where
   -- alone on 1 to 5
   pub alone : 1 ≤ o .number → o .number ≤ 5 → o .work ≡ work
-  -- else its first I bytes are 0 and the rest unchanged
-  pub cleared : (o .number ≡ 0 → ⊥) → 6 ≤ o .number → o .work ≡ replicate ((layoutIn a) .I) 0 ++ drop ((layoutIn a) .I) work
-  pub opened : o .number ≡ 0 → o .work ≡ replicate ((layoutIn a) .I) 0 ++ drop ((layoutIn a) .I) work
+  -- otherwise its first I bytes are 0 and the rest unchanged
+  pub cleared : (o .number ≡ 0) ⊎ (6 ≤ o .number) → o .work ≡ replicate ((layoutIn a) .I) 0 ++ drop ((layoutIn a) .I) work
   pub size : length (o .work) ≡ length work
 
 -- one cut opening: its work buffer, and how many stores it may make
@@ -53,7 +52,8 @@ afterCuts (c ∷ cs) a = afterCuts cs ((cutOpenOf a (c .work) (c .stores)) .aren
 -- an opening after any cut openings, refused ones included, answers and ends as without them
 pub record CutsLeaveNoTrace (a work : List ℕ) (cuts : List Cut) : Type 0 where
   pub number : (openOf (afterCuts cuts a) work) .number ≡ (openOf a work) .number
-  pub arena : (openOf a work) .number ≡ 0 → (openOf (afterCuts cuts a) work) .arena ≡ (openOf a work) .arena
+  -- an opening that is refused for want of room leaves the arena as the cuts left it
+  pub arena : (openOf a work) .number ≢ 5 → (openOf (afterCuts cuts a) work) .arena ≡ (openOf a work) .arena
   pub handle : (openOf (afterCuts cuts a) work) .handle ≡ (openOf a work) .handle
   pub work-buffer : (openOf (afterCuts cuts a) work) .work ≡ (openOf a work) .work
 
@@ -137,8 +137,8 @@ pub record Mended (a after : List ℕ) : Type 0 where
 -- all of it, for any bytes lent as an arena and any work buffers
 pub record OpeningClaim : Type 0 where
   pub answers : (a work : List ℕ) → Small a → OpeningAnswers a work
-  pub refused : (a work : List ℕ) → (openOf a work) .number ≢ 0 → RefusedOpening a work (openOf a work)
-  pub refused-cut : (a work : List ℕ) (k : ℕ) → (openOf a work) .number ≢ 0 → RefusedOpening a work (cutOpenOf a work k)
+  pub refused : (a work : List ℕ) → (openOf a work) .number ≢ 0 → RefusedOpening a (openOf a work)
+  pub refused-cut : (a work : List ℕ) (k : ℕ) → (openOf a work) .number ≢ 0 → RefusedOpening a (cutOpenOf a work k)
   pub work : (a work : List ℕ) → WorkAfter a work (openOf a work)
   pub cut : (a work : List ℕ) (k : ℕ) → CutAnswers a work k
   pub cuts : (a work : List ℕ) (cuts : List Cut) → Small a → CutsLeaveNoTrace a work cuts
@@ -147,13 +147,13 @@ pub record OpeningClaim : Type 0 where
   pub handle : (a work : List ℕ) → Small a → (openOf a work) .number ≡ 0 → HandleAsFound a ((openOf a work) .handle)
   pub mends : (a work : List ℕ) → Small a → (openOf a work) .number ≡ 0 → Mended a ((openOf a work) .arena)
 
--- what making is lent: bytes, and numbers of 32 bits
-pub record Lent (o : Order) : Type 0 where
-  pub first : Small (o .first)
-  pub second : Small (o .second)
-  pub size : o .size < 4294967296
-  pub sectors : o .sectors < 4294967296
-  pub lanes : o .lanes < 4294967296
+-- what making accepts: allowed S, E and lanes, a length that is allowed and the figure worked out, and identifiers of 16 bytes
+pub record OrderOk (o : Order) (n : ℕ) : Type 0 where
+  pub sizes : SizesOk (o .size) (o .sectors) (o .lanes)
+  pub size : LengthOk n
+  pub exact : n ≡ madeLength (o .size) (o .sectors) (o .lanes)
+  pub first : length (o .first) ≡ 16
+  pub second : length (o .second) ≡ 16
 
 -- what holds of a made arena
 pub record MadeArena (o : Order) (a : List ℕ) : Type 0 where
@@ -179,9 +179,11 @@ pub record MadeArena (o : Order) (a : List ℕ) : Type 0 where
 abbrev pub smallest : Order
 smallest = record { size = 512; sectors = 1; lanes = 1; first = replicate 16 0; second = replicate 16 0 }
 
--- making answers by its row; a refusal changes nothing; an accepted one gives a made arena; and there is one
+-- making answers by its row, 0 exactly for what it accepts; a refusal changes nothing; an accepted one gives a made arena; and there is one
 pub record MakingClaim : Type 0 where
   pub row : (o : Order) (a : List ℕ) → First (makeRow o (length a)) ((makeOf o a) .number)
+  pub accepts : (o : Order) (a : List ℕ) → (makeOf o a) .number ≡ 0 → OrderOk o (length a)
+  pub only : (o : Order) (a : List ℕ) → OrderOk o (length a) → (makeOf o a) .number ≡ 0
   pub refused : (o : Order) (a : List ℕ) → (makeOf o a) .number ≢ 0 → (makeOf o a) .arena ≡ a
-  pub made : (o : Order) (a : List ℕ) → Small a → Lent o → (makeOf o a) .number ≡ 0 → MadeArena o a
+  pub made : (o : Order) (a : List ℕ) → Small a → Small (o .first) → Small (o .second) → (makeOf o a) .number ≡ 0 → MadeArena o a
   pub one : (makeOf smallest (replicate 20480 0)) .number ≡ 0
