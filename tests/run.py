@@ -2,6 +2,7 @@
 
 The report is run on every arena of tests/arenas; what `cases` must write (rt runs it) has to be what the model works out.
 """
+import collections
 import pathlib
 import subprocess
 import sys
@@ -9,9 +10,11 @@ import sys
 import arenas
 import cases
 import model
+import random_arenas
 
 TOP = pathlib.Path(__file__).resolve().parent.parent
 REPORT = TOP / "target" / "bin" / "report"
+RANDOM = 600
 
 
 def check_arena(name, arena):
@@ -22,10 +25,21 @@ def check_arena(name, arena):
         return "the stored arena is not the one that the model builds"
     if model.report(arena).encode() != expected:
         return "the stored report is not the model's"
-    got = subprocess.run([REPORT], stdin=stored.open("rb"), capture_output=True, timeout=60).stdout
+    return check_report(arena)
+
+
+def check_report(arena):
+    """What is wrong with the program's report on these bytes, or nothing."""
+    got = subprocess.run([REPORT], input=arena, capture_output=True, timeout=60).stdout
+    expected = model.report(arena).encode()
     if got != expected:
         return "the report is %r, not %r" % (got, expected)
     return None
+
+
+def answer_of(arena):
+    """The number that the model answers for these bytes."""
+    return model.judge(bytearray(arena), 128).number if len(arena) <= model.REPORT_LIMIT else 1
 
 
 def main():
@@ -36,11 +50,17 @@ def main():
         fault = check_arena(name, arena)
         if fault:
             wrong.append("%s: %s" % (name, fault))
+    answers = collections.Counter()
+    for number, arena in enumerate(random_arenas.random_arenas(RANDOM)):
+        fault = check_report(arena)
+        answers[answer_of(arena)] += 1
+        if fault:
+            wrong.append("random arena %d: %s" % (number, fault))
     if (cases.CASES / "stdout").read_text() != cases.text():
         wrong.append("cases: the stored text is not the model's")
     for line in wrong:
         print("tests: " + line)
-    print("tests: %d reports compared, %d faults" % (len(built), len(wrong)))
+    print("tests: %d named and %d random arenas, answers %s, %d faults" % (len(built), RANDOM, dict(sorted(answers.items())), len(wrong)))
     return 1 if wrong else 0
 
 

@@ -1,0 +1,79 @@
+"""Random arenas, valid and damaged, from a fixed seed: what the report is compared with the model on beside the named ones."""
+import random
+import struct
+
+import model
+
+SIZES = ((512, 1, 1), (512, 3, 2), (512, 20, 4), (512, 60, 4), (512, 80, 16), (4096, 3, 2))
+
+
+def spread(rng, size, sectors, lanes):
+    """A layout that is allowed, with a gap before some parts."""
+    f = model.made_figures(size, sectors, lanes)
+    gap = 0
+    for name in ("data", "map", "flog", "copy"):
+        gap += rng.choice((0, 0, 0, 4096))
+        setattr(f, name, getattr(f, name) + gap)
+    return f
+
+
+def valid(rng):
+    """An arena with every block mapped or free once, sectors in all four states, and some lanes pending."""
+    size, sectors, lanes = rng.choice(SIZES)
+    f = spread(rng, size, sectors, lanes)
+    arena = bytearray(rng.randbytes(f.copy + 4096))
+    block = model.info_block(f, rng.randbytes(16), rng.randbytes(16))
+    arena[:4096] = arena[-4096:] = block
+    blocks = list(range(f.blocks))
+    rng.shuffle(blocks)
+    free, mapped = blocks[:lanes], blocks[lanes:]
+    targets = rng.sample(range(sectors), lanes)
+    for lane in range(lanes):
+        sector, new, old = targets[lane], free[lane], free[lane]
+        if rng.random() < 0.4:
+            old, new = mapped[sector], free[lane]
+        half, sequence = rng.randrange(2), rng.randint(1, 3)
+        older = rng.choice((0, (sequence + 1) % 3 + 1))
+        start = f.flog + 64 * lane
+        struct.pack_into("<I", arena, start + 16 * (1 - half) + 12, older)
+        struct.pack_into("<IIII", arena, start + 16 * half, sector, old, new, sequence)
+    for sector in range(sectors):
+        flags = rng.choice((1, 2, 3, 3))
+        word = flags << 30 | mapped[sector]
+        if mapped[sector] == sector and rng.random() < 0.5:
+            word = rng.randrange(1 << 30)
+        struct.pack_into("<I", arena, f.map + 4 * sector, word)
+    return arena, f
+
+
+def damaged(rng):
+    """A valid arena with one or two words changed in the flog, the map or an info block."""
+    arena, f = valid(rng)
+    for _ in range(rng.randint(1, 2)):
+        place = rng.choice(("flog", "map", "info", "figure", "length"))
+        if place == "flog":
+            at = f.flog + 64 * rng.randrange(f.lanes) + 4 * rng.randrange(8)
+            struct.pack_into("<I", arena, at, rng.choice((0, 1, 2, 3, 4, f.blocks - 1, f.blocks, rng.getrandbits(32))))
+        elif place == "map":
+            word = rng.randrange(4) << 30 | rng.choice((0, rng.randrange(f.blocks), f.blocks))
+            struct.pack_into("<I", arena, f.map + 4 * rng.randrange(f.sectors), word)
+        elif place == "info":
+            arena[rng.choice((0, len(arena) - 4096)) + rng.randrange(4096)] ^= 1 << rng.randrange(8)
+        elif place == "figure":
+            figures = dict(f.__dict__)
+            name = rng.choice(list(figures))
+            figures[name] = rng.choice((0, 1, figures[name], figures[name] + 1, figures[name] + 4096, 2**32 - 1)) % 2**32
+            header = rng.choice(({}, {"flags": 1}, {"version": (2, 1)}, {"next_arena": 4096}, {"info_size": 4095}))
+            block = model.info_block(model.Figures(**figures), bytes(16), bytes(16), **header)
+            arena[:4096] = block
+            if rng.random() < 0.5:
+                arena[-4096:] = block
+        else:
+            del arena[len(arena) - rng.choice((1, 512, 4096)) :]
+    return arena, f
+
+
+def random_arenas(count, seed=2):
+    rng = random.Random(seed)
+    for _ in range(count):
+        yield bytes((valid if rng.random() < 0.4 else damaged)(rng)[0])
