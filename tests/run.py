@@ -1,6 +1,6 @@
 """Compares what the programs write with the model.
 
-The report is run on every arena of tests/arenas; what `cases` must write (rt runs it) has to be what the model works out.
+The report is run on every arena of tests/arenas and on random ones; what `cases` must write (rt runs it) has to be what the model works out.
 """
 import collections
 import pathlib
