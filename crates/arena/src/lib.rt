@@ -1,5 +1,8 @@
-// The calls on an arena: making, showing the info block that counts, opening and cut opening.
+// The calls on an arena: making, showing the info block that counts, opening and cut opening, reading, and a write store by store.
 pub mod open;
 
 pub use judge::info::info_block;
 pub use making::make;
+pub use reading::read;
+pub use writing::start;
+pub use writing::step;

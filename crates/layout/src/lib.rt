@@ -1,11 +1,12 @@
 // The figures of an arena: which are allowed, which making works out, and where each part's words are.
+use format::numbers::BlockNo;
 use format::numbers::LaneNo;
 use format::numbers::SectorNo;
 ghost use mathlib.Core.Path.{_≡_};
 ghost use mathlib.Core.Bool.{true};
 ghost use Prim.Native.Nat.{_+_, _*_, _≤_, _<_};
 ghost use Rattle.layout.specs.Figures.{lengthAllowed, sizesAllowed, startsAligned, partsInOrder, figuresAllowed, roundUp, madeLength, madeFigures};
-ghost use Rattle.layout.specs.Place.{layoutOf, inMap, inFlog, at};
+ghost use Rattle.layout.specs.Place.{layoutOf, inData, inMap, inFlog, at};
 
 // The most lanes that an arena has.
 pub const MAX_LANES: u32 = 16;
@@ -186,4 +187,12 @@ pub fn flog_place(f: Figures, lane: LaneNo, half: u32, k: usize) -> usize
     ensures { λ r. ⌜ r ≡ at (layoutOf f) (inFlog (lane .0) half k) ⌝ }
 {
     (f.flogoff / 4) as usize + (16 * (lane.0 as usize) + (half as usize * HALF_DISTANCE + k))
+}
+
+// The word number of word k of a block.
+pub fn data_place(f: Figures, block: BlockNo, k: usize) -> usize
+    requires { ⌜ k < 4096 ⌝ }
+    ensures { λ r. ⌜ r ≡ at (layoutOf f) (inData (block .0) k) ⌝ }
+{
+    (f.dataoff / 4) as usize + (block.0 as usize * ((f.internal / 4) as usize) + k)
 }

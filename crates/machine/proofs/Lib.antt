@@ -21,9 +21,13 @@ pub mod Cuts
 pub mod InBytes
 pub mod Claim
 pub mod Good
+pub mod StoreKinds
+pub mod Steps
 pub mod FreshArena
 pub mod FreshInfo
 pub mod MadeArena
 pub mod MadeValid
 pub mod Making
 pub mod Rule16
+pub mod Calls
+pub mod Running

@@ -8,3 +8,7 @@ pub mod Making
 pub mod Opening
 pub mod Valid
 pub mod Claims
+pub mod Reading
+pub mod Writing
+pub mod Running
+pub mod RunningClaim

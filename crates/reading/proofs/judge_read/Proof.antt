@@ -1,0 +1,104 @@
+-- `judge_read` meets its contract: one law for each answer.
+use mathlib.Core.Path.{sym, ap, _∙_}
+use native.Mathlib.Omega.{arith}
+use borrow.Author.Tests.{not-true, not-false}
+use Rattle.format.specs.MapWord.{flagsOf, readingOf, badWord}
+use Rattle.reading.proofs.Laws.{fit-of, bad-handle, no-such-sector, wrong-buffer, bad-map-word, bad-sector, accepted}
+use borrow.Author.Needs.{needs}
+use Rattle.reading.proofs.judge_read.Statement.{statement}
+use Rattle.reading.proofs.judge_read.Tie as tie
+
+handle-allowed-requires : tie.Need-handle-allowed-requires
+handle-allowed-requires c κs = search needs
+
+returns : tie.Need-returns
+returns c =
+    let at-handle-allowed = c .before in
+    bad-handle _ _ _ _ (sym (at-handle-allowed .handle-allowed .ensures) ∙ not-true _ (c .if1 .taken))
+
+returns-2 : tie.Need-returns-2
+returns-2 c =
+    let at-if1 = c .before .before .before .before in
+    let at-handle-allowed = at-if1 .before in
+    let e = sym (at-handle-allowed .handle-allowed .ensures) ∙ not-false _ (at-if1 .if1 .left) in
+    no-such-sector _ _ _ _ e (c .if2 .taken)
+
+cast-if3 : tie.Need-cast-if3
+cast-if3 c = search needs
+
+returns-3 : tie.Need-returns-3
+returns-3 c =
+    let at-if2 = c .before .before in
+    let at-if1 = at-if2 .before .before .before .before in
+    let at-handle-allowed = at-if1 .before in
+    let e = sym (at-handle-allowed .handle-allowed .ensures) ∙ not-false _ (at-if1 .if1 .left) in
+    wrong-buffer _ _ _ _ e (at-if2 .if2 .left) (c .if3 .taken)
+
+map-word-requires : tie.Need-map-word-requires
+map-word-requires c κs =
+    let at-if2 = c .before .before in
+    let at-if1 = at-if2 .before .before .before .before in
+    let at-handle-allowed = at-if1 .before in
+    let e = sym (at-handle-allowed .handle-allowed .ensures) ∙ not-false _ (at-if1 .if1 .left) in
+    (fit-of _ _ e, omega (arith, at-if2 .if2 .left))
+
+bad-word-requires : tie.Need-bad-word-requires
+bad-word-requires c κs = search needs
+
+returns-4 : tie.Need-returns-4
+returns-4 c =
+    let at-map-word = c .before .before in
+    let at-if3 = at-map-word .before in
+    let at-if2 = at-if3 .before .before in
+    let at-if1 = at-if2 .before .before .before .before in
+    let at-handle-allowed = at-if1 .before in
+    let e = sym (at-handle-allowed .handle-allowed .ensures) ∙ not-false _ (at-if1 .if1 .left) in
+    let w = ap (badWord (at-handle-allowed .before .before .before .args .h .figures .blocks)) (sym (at-map-word .map-word .ensures)) in
+    bad-map-word _ _ _ _ e (at-if2 .if2 .left) (at-if3 .if3 .left) (w ∙ sym (c .before .bad-word .ensures) ∙ c .if4 .taken)
+
+reading-of-requires : tie.Need-reading-of-requires
+reading-of-requires c κs = search needs
+
+returns-5 : tie.Need-returns-5
+returns-5 c =
+    let at-if4 = c .before .before in
+    let at-map-word = at-if4 .before .before in
+    let at-if3 = at-map-word .before in
+    let at-if2 = at-if3 .before .before in
+    let at-if1 = at-if2 .before .before .before .before in
+    let at-handle-allowed = at-if1 .before in
+    let e = sym (at-handle-allowed .handle-allowed .ensures) ∙ not-false _ (at-if1 .if1 .left) in
+    let w = ap (badWord (at-handle-allowed .before .before .before .args .h .figures .blocks)) (sym (at-map-word .map-word .ensures)) in
+    let v = w ∙ sym (at-if4 .before .bad-word .ensures) ∙ at-if4 .if4 .left in
+    let r = sym (c .before .reading-of .ensures ∙ ap (λ x. readingOf (flagsOf x)) (at-map-word .map-word .ensures)) in
+    bad-sector _ _ _ _ e (at-if2 .if2 .left) (at-if3 .if3 .left) v (r ∙ c .if5 .taken)
+
+returns-6 : tie.Need-returns-6
+returns-6 c =
+    let at-if4 = c .before .before in
+    let at-map-word = at-if4 .before .before in
+    let at-if3 = at-map-word .before in
+    let at-if2 = at-if3 .before .before in
+    let at-if1 = at-if2 .before .before .before .before in
+    let at-handle-allowed = at-if1 .before in
+    let e = sym (at-handle-allowed .handle-allowed .ensures) ∙ not-false _ (at-if1 .if1 .left) in
+    let w = ap (badWord (at-handle-allowed .before .before .before .args .h .figures .blocks)) (sym (at-map-word .map-word .ensures)) in
+    let v = w ∙ sym (at-if4 .before .bad-word .ensures) ∙ at-if4 .if4 .left in
+    let r = sym (c .before .reading-of .ensures ∙ ap (λ x. readingOf (flagsOf x)) (at-map-word .map-word .ensures)) in
+    accepted _ _ _ _ e (at-if2 .if2 .left) (at-if3 .if3 .left) v (λ x. c .if5 .left (sym r ∙ x))
+
+pub judge-read-spec : {M : Type 1} → statement M
+judge-read-spec =
+    tie.close
+    (tie.spec
+    handle-allowed-requires
+    returns
+    returns-2
+    cast-if3
+    returns-3
+    map-word-requires
+    bad-word-requires
+    returns-4
+    reading-of-requires
+    returns-5
+    returns-6)

@@ -1,0 +1,28 @@
+-- `writing::moved` meets its contract: the last store finishes the record, another counts.
+use Rattle.writing.proofs.Plans.{moved-last, moved-on}
+use mathlib.Core.Path.{_∙_}
+use borrow.Author.Needs.{needs}
+use Rattle.writing.proofs.moved.Statement.{statement}
+use Rattle.writing.proofs.moved.Tie as tie
+
+add-if1 : tie.Need-add-if1
+add-if1 c = search needs
+
+add-if1-2 : tie.Need-add-if1-2
+add-if1-2 c = search needs
+
+finished-requires : tie.Need-finished-requires
+finished-requires c κs = search needs
+
+returns : tie.Need-returns
+returns c = c .finished .ensures ∙ moved-last _ _ (c .before .if1 .taken)
+
+stored-requires : tie.Need-stored-requires
+stored-requires c κs = search needs
+
+returns-2 : tie.Need-returns-2
+returns-2 c = c .stored .ensures ∙ moved-on _ _ (c .before .if1 .left)
+
+pub moved-spec : {M : Type 1} → statement M
+moved-spec =
+    tie.close (tie.spec add-if1 add-if1-2 finished-requires returns stored-requires returns-2)

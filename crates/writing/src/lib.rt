@@ -1,0 +1,229 @@
+// Starting a write, and one step of it.
+use format::map::bad_word;
+use format::map::mapped_word;
+use format::numbers::LaneNo;
+use format::numbers::SectorNo;
+use lanes::map_block;
+use lanes::map_word;
+use layout::Figures;
+use layout::data_place;
+use layout::flog_place;
+use layout::map_place;
+use machine::answer::Answer;
+use machine::handle::Handle;
+use machine::handle::handle_allowed;
+use machine::lane::Lane;
+use words::put_word;
+use words::word_at;
+ghost use mathlib.Core.Path.{_≡_};
+ghost use mathlib.Core.Bool.{_&&_};
+ghost use mathlib.Core.List.{List};
+ghost use Prim.Native.Nat.{ℕ, _+_, _*_, _/_, _≤_, _<_};
+ghost use lib.ListN.{length};
+ghost use lib.Dec.{eqb};
+ghost use Rattle.layout.specs.Place.{layoutOf, at};
+ghost use Rattle.layout.specs.Fit.{Fit};
+ghost use Rattle.machine.specs.Answer.{numberOf};
+ghost use Rattle.machine.specs.Stores.{stored};
+ghost use Rattle.machine.specs.Writing.{planOf, storeAt, laneStored, withLane, inFlight, startNumber, startOf, stepNumber, stepOf};
+ghost use Rattle.writing.specs.Gave.{stepGave, RecordFit};
+
+// What a start or a step gives: the answer, and the handle as it then is.
+pub struct Stepped {
+    pub answer: Answer,
+    pub handle: Handle,
+}
+
+// Whether a lane's record has a sector in flight.
+fn flies(r: Lane, sector: SectorNo) -> bool
+    ensures { λ t. ⌜ t ≡ (r .busy && eqb (r .sector .0) (sector .0)) ⌝ }
+{
+    if !r.busy {
+        return false;
+    }
+    r.sector.0 == sector.0
+}
+
+// Whether one of the first n lanes has a sector in flight.
+fn in_flight(h: Handle, n: u32, sector: SectorNo) -> bool
+    requires { ⌜ n ≤ 16 ⌝ }
+    ensures { λ t. ⌜ t ≡ inFlight (h .lanes) n (sector .0) ⌝ }
+{
+    let end = n as usize;
+    let mut i: usize = 0;
+    while i < end {
+        let r = h.lanes[i];
+        if flies(r, sector) {
+            return true;
+        }
+        i += 1;
+    }
+    false
+}
+
+// The handle with one record replaced.
+fn with_lane(mut h: Handle, lane: LaneNo, r: Lane) -> Handle
+    requires { ⌜ lane .0 < 16 ⌝ }
+    ensures { λ g. ⌜ g ≡ withLane h (lane .0) r ⌝ }
+{
+    let i = lane.0 as usize;
+    h.lanes[i] = r;
+    h
+}
+
+// Judges a start: 16, 11, 12, 9, 13, 7.
+fn judge_start(arena: &[u8], h: Handle, lane: LaneNo, sector: SectorNo) -> Answer
+    ensures { λ r. ⌜ numberOf r ≡ startNumber (now (arena .entry)) h (lane .0) (sector .0) ⌝ }
+{
+    if !handle_allowed(h, arena.len()) {
+        return Answer::BadHandle;
+    }
+    let f = h.figures;
+    if f.lanes <= lane.0 {
+        return Answer::NoSuchLane;
+    }
+    let i = lane.0 as usize;
+    let r = h.lanes[i];
+    if r.busy {
+        return Answer::LaneBusy;
+    }
+    if f.sectors <= sector.0 {
+        return Answer::NoSuchSector;
+    }
+    if in_flight(h, f.lanes, sector) {
+        return Answer::SectorBusy;
+    }
+    if bad_word(f.blocks, map_word(arena, f, sector)) {
+        return Answer::BadMapWord;
+    }
+    Answer::Done
+}
+
+// Starts a write to a sector on an idle lane; nothing is stored.
+pub fn start(arena: &[u8], h: Handle, lane: LaneNo, sector: SectorNo) -> Stepped
+    ensures { λ r. ⌜ stepGave r (now (arena .entry)) ≡ startOf (now (arena .entry)) h (lane .0) (sector .0) ⌝ }
+{
+    let answer = judge_start(arena, h, lane, sector);
+    if !answer.is_done() {
+        return Stepped {
+            answer: answer,
+            handle: h,
+        };
+    }
+    let i = lane.0 as usize;
+    let r = h.lanes[i];
+    let old = map_block(arena, h.figures, sector);
+    let begun = r.start(sector, old);
+    let next = with_lane(h, lane, begun);
+    Stepped {
+        answer: answer,
+        handle: next,
+    }
+}
+
+// The word number of store k of the write that a record has in flight.
+fn store_place(f: Figures, lane: LaneNo, r: Lane, k: u32) -> usize
+    requires { ⌜ RecordFit f (lane .0) r k ⌝ }
+    ensures { λ t. ⌜ ((bytes : List ℕ) → t ≡ at (layoutOf f) (storeAt (layoutOf f) (planOf (lane .0) r) bytes k .place)) ⌝ }
+{
+    let words = f.size / 4;
+    if k < words {
+        return data_place(f, r.block, k as usize);
+    }
+    let j = k - words;
+    if j < 4 {
+        return flog_place(f, lane, r.half, j as usize);
+    }
+    map_place(f, r.sector)
+}
+
+// The word that store k puts there.
+fn store_value(f: Figures, lane: LaneNo, r: Lane, buffer: &[u8], k: u32) -> u32
+    requires { ⌜ RecordFit f (lane .0) r k × (length (now buffer) ≡ f .size) ⌝ }
+    ensures { λ t. ⌜ t ≡ storeAt (layoutOf f) (planOf (lane .0) r) (now (buffer .entry)) k .value ⌝ }
+{
+    let words = f.size / 4;
+    if k < words {
+        return word_at(buffer, k as usize);
+    }
+    let j = k - words;
+    if j == 0 {
+        return r.sector.0;
+    }
+    if j == 1 {
+        return r.old.0;
+    }
+    if j == 2 {
+        return r.block.0;
+    }
+    if j == 3 {
+        return r.sequence.0;
+    }
+    mapped_word(r.block)
+}
+
+// Makes store k of the write that a record has in flight.
+fn put_store(arena: &mut [u8], f: Figures, lane: LaneNo, r: Lane, buffer: &[u8], k: u32)
+    requires { ⌜ Fit f (length (now arena)) × RecordFit f (lane .0) r k × (length (now buffer) ≡ f .size) ⌝ }
+    ensures { λ _. ⌜ now (arena .exit) ≡ stored (layoutOf f) (storeAt (layoutOf f) (planOf (lane .0) r) (now (buffer .entry)) k) (now (arena .entry)) ⌝ }
+{
+    let i = store_place(f, lane, r, k);
+    let v = store_value(f, lane, r, buffer, k);
+    put_word(arena, i, v);
+}
+
+// The record after one more store.
+fn moved(f: Figures, r: Lane) -> Lane
+    requires { ⌜ (r .half < 2) × (r .made < f .size / 4 + 5) × (f .size ≤ 4096) ⌝ }
+    ensures { λ t. ⌜ t ≡ laneStored (layoutOf f) r ⌝ }
+{
+    if r.made + 1 == f.size / 4 + 5 {
+        return r.finished();
+    }
+    r.stored()
+}
+
+// Judges a step: 16, 11, 14, 10.
+fn judge_step(arena: &[u8], h: Handle, lane: LaneNo, buffer: &[u8]) -> Answer
+    ensures { λ r. ⌜ numberOf r ≡ stepNumber (now (arena .entry)) h (lane .0) (now (buffer .entry)) ⌝ }
+{
+    if !handle_allowed(h, arena.len()) {
+        return Answer::BadHandle;
+    }
+    let f = h.figures;
+    if f.lanes <= lane.0 {
+        return Answer::NoSuchLane;
+    }
+    let i = lane.0 as usize;
+    let r = h.lanes[i];
+    if !r.busy {
+        return Answer::LaneIdle;
+    }
+    if buffer.len() != f.size as usize {
+        return Answer::WrongBuffer;
+    }
+    Answer::Done
+}
+
+// Makes the next store of a lane's write.
+pub fn step(arena: &mut [u8], h: Handle, lane: LaneNo, buffer: &[u8]) -> Stepped
+    ensures { λ r. ⌜ stepGave r (now (arena .exit)) ≡ stepOf (now (arena .entry)) h (lane .0) (now (buffer .entry)) ⌝ }
+{
+    let answer = judge_step(arena, h, lane, buffer);
+    if !answer.is_done() {
+        return Stepped {
+            answer: answer,
+            handle: h,
+        };
+    }
+    let f = h.figures;
+    let i = lane.0 as usize;
+    let r = h.lanes[i];
+    put_store(arena, f, lane, r, buffer, r.made);
+    let after = moved(f, r);
+    let next = with_lane(h, lane, after);
+    Stepped {
+        answer: answer,
+        handle: next,
+    }
+}
