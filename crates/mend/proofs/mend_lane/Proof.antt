@@ -1,4 +1,5 @@
 -- `mend::mend_lane` meets its contract: the store is at the map word of the newer half's sector, and maps it to the newer half's new block.
+use Prim.Native.Nat.{_<_}
 use Rattle.machine.specs.Flog.{logged}
 use Rattle.machine.proofs.Mends.{readable-of}
 use Rattle.machine.specs.Flog.{loggedHalf}
@@ -20,11 +21,12 @@ map-place-requires c κs = search needs
 mapped-word-requires : tie.Need-mapped-word-requires
 unfolding loggedHalf
 mapped-word-requires c κs =
-    let p = c .before .before .before .before .before .pre in
-    let e : c .before .before .logged .result .new .0 ≡ logged (layoutOf (c .before .before .before .before .before .args .f)) (c .before .before
-    .before .before .before .args .a .now) (c .before .before .before .before .before .args .l .0) 2 =
-    ap (λ (h : Half). h .new .0) (c .before .before .logged .ensures) in
-    omega (arith, readable-of _ _ _ (p .readable) .new, p .fit .ok .small)
+    let s = c .before .before .before .before .before in
+    let h = c .before .before .logged in
+    let r = readable-of (layoutOf (s .args .f)) (s .args .a .now) (s .args .l .0) (s .pre .readable) in
+    let new : h .result .new .0 < (layoutOf (s .args .f)) .I = rw (ap (λ (x : Half). x .new .0) (h .ensures)) (r .new) in
+    let old : h .result .old .0 < (layoutOf (s .args .f)) .I = rw (ap (λ (x : Half). x .old .0) (h .ensures)) (r .old) in
+    omega (arith, s .pre .fit .ok .small)
 
 put-word-requires : tie.Need-put-word-requires
 unfolding loggedHalf
