@@ -3,6 +3,7 @@
 It is written from the rules alone and shares no code with the library; tests compare the two byte by byte.
 Arenas are bytearrays; refusals are their numbers.
 """
+import functools
 import struct
 from dataclasses import dataclass, field
 
@@ -20,6 +21,7 @@ def fletcher64(words):
     return high << 32 | low
 
 
+@functools.lru_cache(maxsize=64)
 def checksum(block):
     """The checksum of an info block, its own field counted as zero."""
     words = list(struct.unpack("<1024I", block))

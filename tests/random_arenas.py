@@ -1,10 +1,19 @@
-"""Random arenas, valid and damaged, from a fixed seed: what the report is compared with the model on beside the named ones."""
+"""Random arenas, valid and damaged: what the report is compared with the model on beside the named ones, and what histories begin with."""
 import random
 import struct
 
 import model
 
 SIZES = ((512, 1, 1), (512, 3, 2), (512, 20, 4), (512, 60, 4), (512, 80, 16), (4096, 3, 2))
+SMALL = ((512, 1, 1), (512, 2, 1), (512, 3, 2), (512, 5, 3), (512, 6, 6), (512, 20, 4))
+WIDE = ((512, 60, 4), (512, 30, 16), (512, 80, 16))
+LARGE_SECTORS = ((4096, 1, 1), (4096, 3, 2), (4096, 5, 3))
+
+
+def small_sizes(rng):
+    """Sector size, sectors and lanes of an arena that a history begins with: S is 4,096 in one of twelve."""
+    chance = rng.random()
+    return rng.choice(LARGE_SECTORS if chance < 0.08 else WIDE if chance < 0.35 else SMALL)
 
 
 def spread(rng, size, sectors, lanes):
@@ -17,9 +26,9 @@ def spread(rng, size, sectors, lanes):
     return f
 
 
-def valid(rng):
+def valid(rng, sizes=SIZES):
     """An arena with every block mapped or free once, sectors in all four states, and some lanes pending."""
-    size, sectors, lanes = rng.choice(SIZES)
+    size, sectors, lanes = rng.choice(sizes)
     f = spread(rng, size, sectors, lanes)
     arena = bytearray(rng.randbytes(f.copy + 4096))
     block = model.info_block(f, rng.randbytes(16), rng.randbytes(16))
@@ -44,6 +53,24 @@ def valid(rng):
             word = rng.randrange(1 << 30)
         struct.pack_into("<I", arena, f.map + 4 * sector, word)
     return arena, f
+
+
+def aged(rng, arena, f):
+    """A valid arena whose lanes that are not pending name any sector and any new block, as old writes leave them."""
+    for lane in range(f.lanes):
+        pair = struct.unpack_from("<8I", arena, f.flog + 64 * lane)
+        half = model.newer_half(pair[3], pair[7])
+        old, new = pair[4 * half + 1 : 4 * half + 3]
+        if old == new and rng.random() < 0.5:
+            struct.pack_into("<I", arena, f.flog + 64 * lane + 16 * half, rng.randrange(f.sectors))
+            struct.pack_into("<I", arena, f.flog + 64 * lane + 16 * half + 8, rng.randrange(f.blocks))
+    return arena
+
+
+def one_sound_block(rng, arena):
+    """An arena with one of its info blocks spoilt."""
+    arena[rng.choice((0, len(arena) - 4096)) + rng.randrange(4096)] ^= 1 << rng.randrange(8)
+    return arena
 
 
 def damaged(rng):

@@ -1,20 +1,26 @@
-"""Compares what the programs write with the model.
+"""Compares what the programs and the library do with the model.
 
-The report is run on every arena of tests/arenas and on random ones; what `cases` must write (rt runs it) has to be what the model works out.
+The report is run on every arena of tests/arenas and on random ones; what `cases` and `runs` must write (rt runs them) has to be what the
+model works out; the library goes through random histories of calls, call by call beside the model.
 """
 import collections
 import pathlib
 import subprocess
 import sys
+import time
 
 import arenas
 import cases
+import histories
+import library
 import model
 import random_arenas
+import running_cases
 
 TOP = pathlib.Path(__file__).resolve().parent.parent
 REPORT = TOP / "target" / "bin" / "report"
 RANDOM = 600
+HISTORIES = 3000
 
 
 def check_arena(name, arena):
@@ -42,6 +48,28 @@ def answer_of(arena):
     return model.judge(bytearray(arena), 128).number if len(arena) <= model.REPORT_LIMIT else 1
 
 
+def check_running_cases():
+    """What is wrong with the text of cases 9 and 10, as lines."""
+    written = running_cases.text()
+    wrong = ["runs: the paper has %r" % line for line in running_cases.not_as_the_paper(written)]
+    if library.listed("runs") and (running_cases.RUNS / "stdout").read_text() != written:
+        wrong.append("runs: the stored text is not the model's")
+    return wrong
+
+
+def check_histories():
+    """What is wrong with the library's calls, as lines; skipped only while there is no crate btt."""
+    if not library.listed("btt"):
+        print("tests: no crate btt is listed, so no histories are run")
+        return []
+    lib = library.built()
+    began = time.process_time()
+    notes, last, fault = histories.run(lib, HISTORIES)
+    counts = sum(notes.seen.values()), sum(notes.cuts.values()), time.process_time() - began
+    print("tests: %d histories, %d calls, %d writes cut, %.0f s" % (last, *counts))
+    return ["history %d: %s" % (last, fault)] if fault else ["histories: never seen: " + line for line in histories.unseen(notes)]
+
+
 def main():
     built = arenas.all_arenas()
     stray = {p.stem for p in arenas.HERE.iterdir()} - set(built)
@@ -58,6 +86,7 @@ def main():
             wrong.append("random arena %d: %s" % (number, fault))
     if (cases.CASES / "stdout").read_text() != cases.text():
         wrong.append("cases: the stored text is not the model's")
+    wrong += check_running_cases() + check_histories()
     for line in wrong:
         print("tests: " + line)
     print("tests: %d named and %d random arenas, answers %s, %d faults" % (len(built), RANDOM, dict(sorted(answers.items())), len(wrong)))

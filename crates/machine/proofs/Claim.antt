@@ -23,7 +23,7 @@ use Rattle.machine.proofs.Opens.{open-zero, zero-open, opens-judged}
 use Rattle.machine.proofs.Kept.{kept-info, kept-opens, kept-mended, kept-handle}
 use Rattle.machine.proofs.Answers.{opening-answers}
 use Rattle.machine.proofs.Cuts.{cuts-no-trace}
-use Rattle.machine.proofs.InBytes.{handle-as-found, opening-mends}
+use Rattle.machine.proofs.InBytes.{handle-as-found, opening-mends, cut-mends}
 
 module _ (a work : List ℕ) where
   refused-open : (openOf a work) .number ≢ 0 → RefusedOpening a (openOf a work)
@@ -111,4 +111,5 @@ opening-claim = record {
   again = λ a work again small e room. opened-again a work again small e room;
   handle = handle-as-found;
   mends = opening-mends;
+  cut-mends = cut-mends;
 }

@@ -1,13 +1,12 @@
--- What opening finds and mends, in bytes. The starts are multiples of 4, so four times a word number is a byte number; the mended
--- words and the other bytes are followed through the stores of the lanes one by one.
+-- What opening finds and mends, in bytes. The mended words and the other bytes are followed through the stores of the lanes one by one.
 use mathlib.Core.Path.{_≡_, refl, sym, ap, _∙_}
 use mathlib.Core.Logic.{_≢_, _⊎_, inl, inr}
 use mathlib.Core.List.{List, _++_}
 use mathlib.Core.Bool.{true}
-use Prim.Native.Nat.{ℕ, zero, suc, _+_, _-_, _*_, _/_, _≤_, _<_}
+use Prim.Native.Nat.{ℕ, zero, suc, _+_, _-_, _/_, _≤_, _<_}
 use native.Mathlib.Omega.{arith}
 use native.Mathlib.Decide.{ℕ-discrete, decLt}
-use lib.ListN.{length, getD, replicate, getD-replicate, length-replicate, List·getD-eq-default}
+use lib.ListN.{length, getD, take, replicate, getD-replicate, length-replicate, List·getD-eq-default}
 use lib.Seq.{getD-append-add}
 use Rattle.words.specs.Word.{word}
 use Rattle.words.proofs.Laws.{getD-putWord-other}
@@ -16,13 +15,23 @@ use Rattle.format.specs.MapWord.{blockOf, mappedTo}
 use Rattle.format.proofs.Tests.{by-bool}
 use Rattle.layout.specs.Figures.{maxLanes}
 use Rattle.layout.specs.Place.{Layout, layoutOf, at, inMap, inFlog}
-use Rattle.layout.proofs.Allowed.{starts-exact}
 use Rattle.machine.specs.declared.lane.Lane.{Lane}
 use Rattle.machine.specs.Lane.{idleLane, noLane}
 use Rattle.machine.specs.Handle.{laneAt}
 use Rattle.machine.specs.Stores.{putAll}
 use Rattle.machine.specs.Flog.{mapWord, flogWord, newerHalf, logged, pending}
-use Rattle.machine.specs.Opening.{figuresIn, layoutIn, mendStore, mends, mended, foundLane, handleFor, openOf}
+use Rattle.machine.specs.Opening.{
+  figuresIn,
+  layoutIn,
+  mendStore,
+  mends,
+  pendingLanes,
+  mended,
+  foundLane,
+  handleFor,
+  openOf,
+  cutOpenOf,
+}
 use Rattle.machine.specs.Valid.{Small}
 use Rattle.machine.specs.Claims.{
   byteWord,
@@ -36,17 +45,21 @@ use Rattle.machine.specs.Claims.{
   LaneAsFound,
   HandleAsFound,
   PendingIn,
+  pendingBelow,
+  MendedFor,
   Mended,
+  MendedUpTo,
 }
 use Rattle.machine.proofs.Stores.{elsewhere, stored-word, putAll-length}
 use Rattle.machine.proofs.MapStores.{map-fits}
-use Rattle.machine.proofs.Mends.{readable-of, pending-old, mends-more, mends-same, mends-arena}
+use Rattle.machine.proofs.Mends.{readable-of, pending-old, mends-take, mends-more, mends-same, mends-arena}
 use Rattle.machine.proofs.Spare.{two-none}
 use Rattle.machine.proofs.Settled.{of-pending}
 use Rattle.machine.proofs.Lanes.{listed, listed-length, listed-at, found-listed}
 use Rattle.machine.proofs.Ghosts.{Judged}
 use Rattle.machine.proofs.Described.{Described, described-figures}
 use Rattle.machine.proofs.Opens.{open-zero, opens-judged}
+use Rattle.machine.proofs.Offsets.{word-at, map-start, flog-start, map-word}
 
 -- ---- the mended map by word numbers
 
@@ -89,19 +102,10 @@ module _ (g : Layout) (a : List ℕ) (j : Judged g a) where
 
 module _ (a : List ℕ) (d : Described a) where
   flog-bytes : (l h k : ℕ) → flogWord (layoutIn a) a l h k ≡ byteWord a (flogByte (figuresIn a) l h k)
-  unfolding layoutOf word
-  flog-bytes l h k =
-      let s = starts-exact (figuresIn a) (length a) (described-figures a d) in
-      let e : 4 * at (layoutIn a) (inFlog l h k) ≡ flogByte (figuresIn a) l h k = omega (arith, s .2) in
-      ap (byteWord a) e
-
-  map-start : (s : ℕ) → 4 * at (layoutIn a) (inMap s) ≡ mapByte (figuresIn a) s
-  unfolding layoutOf
-  map-start s = omega (arith, starts-exact (figuresIn a) (length a) (described-figures a d) .1)
+  flog-bytes l h k = word-at a (at (layoutIn a) (inFlog l h k)) _ (flog-start (figuresIn a) (length a) (described-figures a d) l h k)
 
   map-bytes : (x : List ℕ) (s : ℕ) → mapWord (layoutIn a) x s ≡ byteWord x (mapByte (figuresIn a) s)
-  unfolding word
-  map-bytes x s = ap (byteWord x) (map-start s)
+  map-bytes = map-word (figuresIn a) (length a) (described-figures a d)
 
   newer-bytes : (l : ℕ) → newerHalf (layoutIn a) a l ≡ newerIn a l
   unfolding newerHalf newerIn
@@ -137,10 +141,15 @@ module _ (a : List ℕ) (d : Described a) where
   to-bytes : (l : ℕ) → pending (layoutIn a) a l ≡ true → PendingIn a l
   to-bytes l t = block-bytes l ∙ pending-old (layoutIn a) a l t ∙ old-bytes l
 
+  below-bytes : (l : ℕ) → pendingBelow a l ≡ pendingLanes (layoutIn a) a l
+  unfolding pendingBelow pendingLanes pending
+  below-bytes zero = refl
+  below-bytes (suc l) = rw (below-bytes l, block-bytes l, ← old-bytes l)
+
   -- a byte outside a map word is in another word
   outside : (k s : ℕ) → (k < mapByte (figuresIn a) s) ⊎ (mapByte (figuresIn a) s + 4 ≤ k) → k / 4 ≢ at (layoutIn a) (inMap s)
-  outside k s (inl u) e = omega (arith, map-start s)
-  outside k s (inr u) e = omega (arith, map-start s)
+  outside k s (inl u) e = omega (arith, map-start (figuresIn a) (length a) (described-figures a d) s)
+  outside k s (inr u) e = omega (arith, map-start (figuresIn a) (length a) (described-figures a d) s)
 
 -- ---- the handle and the arena of an opening
 
@@ -180,18 +189,35 @@ module _ (a : List ℕ) (d : Described a) (j : Judged (layoutIn a) a) where
   handle-found : HandleAsFound a (handleFor a)
   handle-found = record { size = unfold handleFor in refl; figures = unfold handleFor in refl; lanes = lane-found; past = lane-past }
 
+  -- mended for the lanes below n, which are these
+  part-mended : (n : ℕ) → n ≤ (figuresIn a) .lanes → (these : ℕ → Type 0)
+      → ((l : ℕ) → l < (figuresIn a) .lanes → these l → (l < n) × (pending (layoutIn a) a l ≡ true))
+      → ((l : ℕ) → l < n → pending (layoutIn a) a l ≡ true → these l)
+      → MendedFor these a (putAll (layoutIn a) (mends (layoutIn a) a n) a)
+  unfolding layoutOf
+  part-mended n few these in-part of-part = record {
+    size = putAll-length (layoutIn a) (mends (layoutIn a) a n) a;
+    mapped = λ l u t. let p = in-part l u t in
+        sym (map-bytes a d (putAll (layoutIn a) (mends (layoutIn a) a n) a) (sectorIn a l))
+        ∙ ap (mapWord (layoutIn a) (putAll (layoutIn a) (mends (layoutIn a) a n) a)) (sym (sector-bytes a d l))
+        ∙ word-mended (layoutIn a) a j n l few (p .0) (p .1)
+        ∙ ap mappedTo (new-bytes a d l);
+    kept = λ k f. byte-kept (layoutIn a) a j n k few
+        (λ l u t. rw (sector-bytes a d l) (outside a d k (sectorIn a l) (f l (omega arith) (of-part l u t))));
+  }
+
   arena-mended : Mended a (mended (layoutIn a) a)
   unfolding layoutOf
-  arena-mended = record {
-    size = putAll-length (layoutIn a) (mends (layoutIn a) a ((figuresIn a) .lanes)) a;
-    mapped = λ l u p.
-        sym (map-bytes a d (mended (layoutIn a) a) (sectorIn a l))
-        ∙ ap (mapWord (layoutIn a) (mended (layoutIn a) a)) (sym (sector-bytes a d l))
-        ∙ word-mended (layoutIn a) a j ((figuresIn a) .lanes) l (omega arith) u (of-bytes a d l p)
-        ∙ ap mappedTo (new-bytes a d l);
-    kept = λ k f. byte-kept (layoutIn a) a j ((figuresIn a) .lanes) k (omega arith)
-        (λ l u t. rw (sector-bytes a d l) (outside a d k (sectorIn a l) (f l u (to-bytes a d l t))));
-  }
+  arena-mended = part-mended ((figuresIn a) .lanes) (omega arith) (PendingIn a) (λ l u p. (u, of-bytes a d l p)) (λ l u t. to-bytes a d l t)
+
+  cut-mended : (k : ℕ) → MendedUpTo a k (putAll (layoutIn a) (take k (mends (layoutIn a) a ((layoutIn a) .N))) a)
+  unfolding layoutOf
+  cut-mended k =
+      let r = mends-take (layoutIn a) a ((figuresIn a) .lanes) k in
+      let e = below-bytes a d in
+      rw (r .2) (part-mended (r .0) (r .1) (λ l. PendingIn a l × (pendingBelow a l < k))
+      (λ l u p. let t = of-bytes a d l (p .0) in (r .3 l u t .0 (omega (arith, e l, p .1)), t))
+      (λ l u t. (to-bytes a d l t, omega (arith, e l, r .3 l (omega (arith, r .1)) t .1 u))))
 
 module _ (a work : List ℕ) (small : Small a) (e : (openOf a work) .number ≡ 0) where
   pub handle-as-found : HandleAsFound a ((openOf a work) .handle)
@@ -201,3 +227,7 @@ module _ (a work : List ℕ) (small : Small a) (e : (openOf a work) .number ≡ 
   pub opening-mends : Mended a ((openOf a work) .arena)
   unfolding openOf
   opening-mends = let o = open-zero a (length work) e .0 in rw e (arena-mended a (o .info) (opens-judged a o small))
+
+pub cut-mends : (a work : List ℕ) (k : ℕ) → Small a → (cutOpenOf a work k) .number ≡ 0 → MendedUpTo a k ((cutOpenOf a work k) .arena)
+unfolding cutOpenOf
+cut-mends a work k small e = let o = open-zero a (length work) e .0 in rw e (cut-mended a (o .info) (opens-judged a o small) k)

@@ -114,11 +114,12 @@ module _ (first second : List ℕ) (f : Figures) (a : List ℕ) (d : Given first
   unfolding main
   main-is = main-word (layoutOf f) a (infoWords first second f) room (d .small)
 
+  pub small-in : Below 256 (madeOf first second f a)
+  small-in = made-bytes (layoutOf f) a (infoWords first second f) room (d .small) .small
+
   main-small : Below 256 main
   unfolding main
-  main-small =
-      below-take 256 4096 (madeOf first second f a) (omega arith)
-      (made-bytes (layoutOf f) a (infoWords first second f) room (d .small) .small)
+  main-small = below-take 256 4096 (madeOf first second f a) (omega arith) small-in
 
   main-sound : sound main ≡ true
   main-sound = sound-fresh first second f main main-size main-is

@@ -32,6 +32,7 @@ use Rattle.machine.proofs.MadeValid.{
   figures-in,
   layout-in,
   fresh,
+  small-in,
   valid,
   opens,
   opened-mended,
@@ -152,6 +153,9 @@ module _ (o : Order) (a : List ℕ) (small : Small a) (first : Small (o .first))
 
   given : Given (o .first) (o .second) figures a
   given = record { first-small = first; second-small = second; small = small; ok = ok; size = ok-length (length a) (order .size) }
+
+  pub made-small : Small ((makeOf o a) .arena)
+  made-small = rw arena (small-in (o .first) (o .second) figures a given)
 
   made-layout : layoutIn (madeOf (o .first) (o .second) figures a) ≡ layoutOf figures
   made-layout = layout-in (o .first) (o .second) figures a given

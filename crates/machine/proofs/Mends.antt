@@ -6,7 +6,7 @@ use mathlib.Core.List.{List, [], _∷_, append-nil, List·Memᴰ, List·Memᴰ·
 use mathlib.Core.Bool.{Bool, true, false, cond}
 use Prim.Native.Nat.{ℕ, zero, suc, _+_, _≤_, _<_}
 use native.Mathlib.Omega.{arith}
-use native.Mathlib.Decide.{decLe}
+use native.Mathlib.Decide.{ℕ-discrete, decLe}
 use lib.Dec.{ltb}
 use lib.ListN.{length, take, length-append}
 use lib.Seq.{take-all, take-nil, take-append-le}
@@ -55,25 +55,58 @@ module _ (g : Layout) (a : List ℕ) where
   pub none-pending : (n : ℕ) → ((l : ℕ) → l < n → pending g a l ≡ false) → pendingLanes g a n ≡ 0
   none-pending n h = sym (length-mends n) ∙ ap length (none-mended n h)
 
-  -- the first k of the stores are those of the lanes below some n, and all where k is enough
-  pub mends-take : (m k : ℕ) → (n : ℕ) × (n ≤ m) × (take k (mends g a m) ≡ mends g a n) × (pendingLanes g a m ≤ k → n ≡ m)
-  mends-take zero k = (0, omega arith, none, λ _. refl)
+  one-more : (n : ℕ) → pendingLanes g a (suc n) ≡ pendingLanes g a n + cond (pending g a n) 1 0
+  unfolding pendingLanes
+  one-more n = refl
+
+  -- one more lane counts one more at most
+  fewer : (n : ℕ) → (pendingLanes g a n ≤ pendingLanes g a (suc n)) × (pendingLanes g a (suc n) ≤ pendingLanes g a n + 1)
+  fewer n = rw (one-more n) (by-bool (pending g a n) _ (λ t. rw t (omega arith, omega arith)) (λ t. rw t (omega arith, omega arith)))
+
+  -- a pending lane below n is one more than those below it
+  pending-more : (n l : ℕ) → l < n → pending g a l ≡ true → pendingLanes g a l < pendingLanes g a n
+  pending-more zero l u p = absurd (omega arith)
+  pending-more (suc n) l u p = go (ℕ-discrete l n) (λ v. pending-more n l v p)
+    where
+      go : Dec (l ≡ n) → (l < n → pendingLanes g a l < pendingLanes g a n) → pendingLanes g a l < pendingLanes g a (suc n)
+      go (yes e) ih = let t : pending g a n ≡ true = rw e at p in rw (e, one-more n, t) (omega arith)
+      go (no d) ih = omega (arith, ih (omega arith), fewer n .0)
+
+  -- a lane is below n exactly if fewer than k pending lanes are below it
+  abbrev pub Among : ℕ → ℕ → ℕ → Type 0
+  Among k n l = (pendingLanes g a l < k → l < n) × (l < n → pendingLanes g a l < k)
+
+  -- the first k of the stores are those of the lanes below some n
+  pub mends-take : (m k : ℕ)
+      → (n : ℕ) × (n ≤ m) × (take k (mends g a m) ≡ mends g a n) × ((l : ℕ) → l < m → pending g a l ≡ true → Among k n l)
+  mends-take zero k = (0, omega arith, none, λ l u p. absurd (omega arith))
     where
       none : take k (mends g a zero) ≡ mends g a zero
       none = unfold mends in take-nil k
   mends-take (suc m) k = go (decLe (pendingLanes g a (suc m)) k) (mends-take m k)
     where
-      fewer : pendingLanes g a (suc m) ≤ pendingLanes g a m + 1
-      fewer = unfold pendingLanes in (by-bool (pending g a m) (pendingLanes g a (suc m) ≤ pendingLanes g a m + 1)
-          (λ t. rw t (omega arith)) (λ t. rw t (omega arith)))
-
       part : k ≤ length (mends g a m) → take k (mends g a (suc m)) ≡ take k (mends g a m)
       part u = unfold mends in take-append-le k (mends g a m) _ u
 
-      go : Dec (pendingLanes g a (suc m) ≤ k) → (n : ℕ) × (n ≤ m) × (take k (mends g a m) ≡ mends g a n) × (pendingLanes g a m ≤ k → n ≡ m)
-          → (n : ℕ) × (n ≤ suc m) × (take k (mends g a (suc m)) ≡ mends g a n) × (pendingLanes g a (suc m) ≤ k → n ≡ suc m)
-      go (yes u) r = (suc m, omega arith, take-all k (mends g a (suc m)) (rw (length-mends (suc m)) u), λ _. refl)
-      go (no u) r = (r .0, omega (arith, r .1), part (rw (length-mends m) (omega (arith, fewer))) ∙ r .2, λ v. absurd (u v))
+      last : (n l : ℕ) → n ≤ m → k < pendingLanes g a (suc m) → Dec (l ≡ m) → (l < m → Among k n l) → l < suc m → Among k n l
+      last n l v w (yes e) f u = (λ x. absurd (omega (arith, fewer m .1, ap (pendingLanes g a) e)), λ x. absurd (omega arith))
+      last n l v w (no d) f u = f (omega arith)
+
+      go : Dec (pendingLanes g a (suc m) ≤ k)
+          → (n : ℕ) × (n ≤ m) × (take k (mends g a m) ≡ mends g a n) × ((l : ℕ) → l < m → pending g a l ≡ true → Among k n l)
+          → (n : ℕ) × (n ≤ suc m) × (take k (mends g a (suc m)) ≡ mends g a n) × ((l : ℕ) → l < suc m → pending g a l ≡ true → Among k n l)
+      go (yes u) r = (
+        suc m,
+        omega arith,
+        take-all k (mends g a (suc m)) (rw (length-mends (suc m)) u),
+        λ l v p. (λ _. v, λ _. omega (arith, pending-more (suc m) l v p)),
+      )
+      go (no u) r = (
+        r .0,
+        omega (arith, r .1),
+        part (rw (length-mends m) (omega (arith, fewer m .1))) ∙ r .2,
+        λ l v p. last (r .0) l (r .1) (omega arith) (ℕ-discrete l m) (λ w. r .3 l w p) v,
+      )
 
   pub mends-more : (n : ℕ) → pending g a n ≡ true → putAll g (mends g a (suc n)) a ≡ stored g (mendStore g a n) (putAll g (mends g a n) a)
   unfolding mends

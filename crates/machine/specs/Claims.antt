@@ -1,8 +1,10 @@
 -- The claims about making and opening.
 use mathlib.Core.Path.{_≡_}
 use mathlib.Core.Logic.{_≢_, _⊎_}
+use mathlib.Core.Bool.{cond}
 use mathlib.Core.List.{List, [], _∷_, _++_}
-use Prim.Native.Nat.{ℕ, _+_, _-_, _*_, _≤_, _<_}
+use Prim.Native.Nat.{ℕ, zero, suc, _+_, _-_, _*_, _≤_, _<_}
+use lib.Dec.{eqb}
 use lib.ListN.{length, getD, take, drop, replicate}
 use Rattle.format.specs.Sequence.{successor, newer}
 use Rattle.format.specs.MapWord.{flagsOf, readingOf, blockOf}
@@ -121,18 +123,35 @@ pub record HandleAsFound (a : List ℕ) (h : Handle) : Type 0 where
   pub lanes : (l : ℕ) → l < (figuresIn a) .lanes → LaneAsFound a l (laneAt (h .lanes) l)
   pub past : (l : ℕ) → (figuresIn a) .lanes ≤ l → laneAt (h .lanes) l ≡ noLane
 
--- the block of map[sector] equals old
-abbrev pub PendingIn : List ℕ → ℕ → Type 0
-PendingIn a l = blockOf (sectorIn a l) (byteWord a (mapByte (figuresIn a) (sectorIn a l))) ≡ oldIn a l
+-- the block of map[sector]
+abbrev pub mappedIn : List ℕ → ℕ → ℕ
+mappedIn a l = blockOf (sectorIn a l) (byteWord a (mapByte (figuresIn a) (sectorIn a l)))
 
--- map[sector] of each pending lane gets flags 11 and new, and no other byte changes
-pub record Mended (a after : List ℕ) : Type 0 where
+-- a lane is pending if that equals old
+abbrev pub PendingIn : List ℕ → ℕ → Type 0
+PendingIn a l = mappedIn a l ≡ oldIn a l
+
+-- how many of the lanes below l are pending
+unfoldable pub pendingBelow : List ℕ → ℕ → ℕ
+pendingBelow a zero = 0
+pendingBelow a (suc l) = pendingBelow a l + cond (eqb (mappedIn a l) (oldIn a l)) 1 0
+
+-- map[sector] of each of these lanes gets flags 11 and new, and no other byte changes
+pub record MendedFor (these : ℕ → Type 0) (a after : List ℕ) : Type 0 where
   pub size : length after ≡ length a
-  pub mapped : (l : ℕ) → l < (figuresIn a) .lanes → PendingIn a l → byteWord after (mapByte (figuresIn a) (sectorIn a l)) ≡ 3221225472 + newIn a l
+  pub mapped : (l : ℕ) → l < (figuresIn a) .lanes → these l → byteWord after (mapByte (figuresIn a) (sectorIn a l)) ≡ 3221225472 + newIn a l
   pub kept : (j : ℕ)
-      → ((l : ℕ) → l < (figuresIn a) .lanes → PendingIn a l
+      → ((l : ℕ) → l < (figuresIn a) .lanes → these l
       → (j < mapByte (figuresIn a) (sectorIn a l)) ⊎ (mapByte (figuresIn a) (sectorIn a l) + 4 ≤ j))
       → getD after j 0 ≡ getD a j 0
+
+-- each pending lane is mended
+abbrev pub Mended : List ℕ → List ℕ → Type 0
+Mended a after = MendedFor (PendingIn a) a after
+
+-- the first k pending lanes in rising order are mended: those with fewer than k below them
+abbrev pub MendedUpTo : List ℕ → ℕ → List ℕ → Type 0
+MendedUpTo a k after = MendedFor (λ l. PendingIn a l × (pendingBelow a l < k)) a after
 
 -- all of it, for any bytes lent as an arena and any work buffers
 pub record OpeningClaim : Type 0 where
@@ -146,6 +165,7 @@ pub record OpeningClaim : Type 0 where
   pub again : (a work again : List ℕ) → Small a → (openOf a work) .number ≡ 0 → (layoutIn a) .I ≤ length again → OpenedAgain a work again
   pub handle : (a work : List ℕ) → Small a → (openOf a work) .number ≡ 0 → HandleAsFound a ((openOf a work) .handle)
   pub mends : (a work : List ℕ) → Small a → (openOf a work) .number ≡ 0 → Mended a ((openOf a work) .arena)
+  pub cut-mends : (a work : List ℕ) (k : ℕ) → Small a → (cutOpenOf a work k) .number ≡ 0 → MendedUpTo a k ((cutOpenOf a work k) .arena)
 
 -- what making accepts: allowed S, E and lanes, a length that is allowed and the figure worked out, and identifiers of 16 bytes
 pub record OrderOk (o : Order) (n : ℕ) : Type 0 where

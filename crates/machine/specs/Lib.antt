@@ -12,3 +12,11 @@ pub mod Reading
 pub mod Writing
 pub mod Running
 pub mod RunningClaim
+pub mod DemandOne
+pub mod History
+pub mod Row
+pub mod Table
+pub mod DemandTwo
+pub mod Book
+pub mod DemandThree
+pub mod Exhibit

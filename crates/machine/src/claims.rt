@@ -1,18 +1,25 @@
 // The claims about the calls, each the contract of a function that does nothing.
-ghost use Rattle.machine.specs.Claims.{MakingClaim, OpeningClaim};
-ghost use Rattle.machine.specs.RunningClaim.{RunningClaim};
+ghost use Rattle.machine.specs.DemandOne.{DemandOne};
+ghost use Rattle.machine.specs.DemandTwo.{DemandTwo};
+ghost use Rattle.machine.specs.DemandThree.{DemandThree};
+ghost use Rattle.machine.specs.Exhibit.{Exhibited};
 
-// Making answers by its row of the table, changes nothing where it refuses, and gives a valid arena where it accepts.
-pub fn making()
-    ensures making { λ _. ⌜ MakingClaim ⌝ }
+// Every call answers by its row of the table, and a refusal changes nothing.
+pub fn demand_one()
+    ensures demand_one { λ _. ⌜ DemandOne ⌝ }
 {}
 
-// Opening answers by its row of the table, a refusal changes nothing, and openings that are cut leave no trace.
-pub fn opening()
-    ensures opening { λ _. ⌜ OpeningClaim ⌝ }
+// An arena that opens behaves as a plain row of sectors, and each step makes the one store that document 01 names.
+pub fn demand_two()
+    ensures demand_two { λ _. ⌜ DemandTwo ⌝ }
 {}
 
-// Read, start, step and whole write answer by their rows of the table, a refusal changes nothing, and a start stores nothing.
-pub fn running()
-    ensures running { λ _. ⌜ RunningClaim ⌝ }
+// A list of calls, cut anywhere, leaves what the plain book says, and opening it finishes just the writes that lack their map word.
+pub fn demand_three()
+    ensures demand_three { λ _. ⌜ DemandThree ⌝ }
+{}
+
+// There is a run on a made arena that meets the premises of demands 2 and 3.
+pub fn exhibited()
+    ensures exhibited { λ _. ⌜ Exhibited ⌝ }
 {}

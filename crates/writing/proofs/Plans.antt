@@ -1,22 +1,21 @@
--- The stores of a write one by one: where each goes and what it puts there, that each is within the arena, and the record after it.
+-- The stores of a write one by one: where each goes and what it puts there, that each is within the arena, the record after it, and one more of them.
 use mathlib.Core.Path.{_≡_, refl, sym, ap, _∙_}
-use mathlib.Core.Bool.{Bool, true, false}
 use mathlib.Core.List.{List}
 use Prim.Native.Nat.{ℕ, zero, suc, _+_, _-_, _*_, _/_, _≤_, _<_}
 use native.Mathlib.Omega.{arith}
 use native.Mathlib.Decide.{decLt}
-use lib.Dec.{eqb, ltb}
 use borrow.Author.Tests.{eq-eqb, ne-eqb, lt-ltb, le-ltb}
 use Rattle.words.specs.Word.{word}
 use Rattle.format.specs.MapWord.{mappedTo}
-use Rattle.layout.specs.Place.{Layout, LayoutOk, layoutOf, inData, inMap, inFlog, at, InRange}
+use Rattle.layout.specs.Place.{Layout, layoutOf, inData, inMap, inFlog, at, InRange}
 use Rattle.layout.specs.Fit.{Fit}
 use Rattle.layout.specs.declared.Figures.{Figures}
 use Rattle.layout.proofs.Place.{at-inside}
 use Rattle.machine.specs.Lane.{finishedLane, storedLane}
-use Rattle.machine.specs.Stores.{Store}
-use Rattle.machine.specs.Writing.{Plan, planOf, logStore, storeAt, laneStored}
+use Rattle.machine.specs.Stores.{Store, stored, putAll}
+use Rattle.machine.specs.Writing.{Plan, planOf, logStore, storeAt, firstStores, laneStored}
 use Rattle.machine.specs.declared.lane.Lane.{Lane}
+use Rattle.machine.proofs.Stores.{putAll-one}
 use Rattle.writing.specs.Gave.{RecordFit}
 
 -- the stores after the data words
@@ -85,3 +84,21 @@ module _ (f : Figures) (r : Lane) where
   pub moved-on : (r .made + 1 ≡ f .size / 4 + 5 → ⊥) → storedLane r ≡ laneStored (layoutOf f) r
   unfolding laneStored layoutOf
   moved-on h = rw (ne-eqb (r .made + 1) (f .size / 4 + 5) h)
+
+-- a record that can make one store of a write can make every other
+pub fit-at : (f : Figures) (l : ℕ) (r : Lane) (j k : ℕ) → RecordFit f l r j → k < f .size / 4 + 5 → RecordFit f l r k
+fit-at f l r j k q u = record {
+  lane = q .lane;
+  block = q .block;
+  half = q .half;
+  sector = q .sector;
+  store = u;
+  size = q .size;
+  blocks = q .blocks;
+}
+
+-- one more store of a write
+pub first-more : (g : Layout) (p : Plan) (bytes a : List ℕ) (k : ℕ)
+    → stored g (storeAt g p bytes k) (putAll g (firstStores g p bytes k) a) ≡ putAll g (firstStores g p bytes (suc k)) a
+unfolding firstStores
+first-more g p bytes a k = sym (putAll-one g (firstStores g p bytes k) (storeAt g p bytes k) a)

@@ -1,26 +1,24 @@
--- Laws of the refusals of start and step, outcome by outcome, and what a handle that rule 16 lets pass gives: figures that fit, and records in range.
-use mathlib.Core.Path.{_≡_, refl, sym, ap, _∙_}
-use mathlib.Core.Bool.{Bool, true, false, not, cond, _&&_}
-use mathlib.Core.List.{List, [], _∷_}
-use Prim.Native.Nat.{ℕ, _+_, _≤_, _<_}
+-- Laws of the refusals of start, step and whole write, outcome by outcome, and what a handle that rule 16 lets pass gives:
+-- figures that fit, and records in range.
+use mathlib.Core.Path.{_≡_, sym, ap, _∙_}
+use mathlib.Core.Bool.{Bool, true, false, not, _&&_}
+use mathlib.Core.List.{List}
+use Prim.Native.Nat.{ℕ, _+_, _/_, _≤_, _<_}
 use native.Mathlib.Omega.{arith}
 use native.Mathlib.Nat.{le-antisymm}
-use lib.Dec.{eqb, leb, ltb}
-use lib.ListN.{length}
-use borrow.Author.Tests.{eq-eqb, ne-eqb, le-leb, lt-leb, ltb-true, eqb-true, leb-false, not-false}
+use lib.Dec.{eqb, leb}
+use lib.ListN.{length, replicate, length-replicate}
+use borrow.Author.Tests.{eq-eqb, ne-eqb, le-leb, lt-leb, eqb-true, leb-false, not-false}
 use mathlib.Core.Logic.{⊎-elim}
-use Rattle.format.specs.Tests.{every, some}
-use Rattle.format.specs.Sequence.{isSet}
 use Rattle.format.specs.MapWord.{badWord}
-use Rattle.format.proofs.Tests.{and-elim, all-elim, every-elim, some-zero, some-more, some-found}
-use Rattle.layout.specs.Figures.{lengthAllowed, figuresAllowed}
+use Rattle.format.proofs.Tests.{some-zero, some-more, some-found}
 use Rattle.layout.specs.Place.{layoutOf}
 use Rattle.layout.specs.Fit.{Fit}
-use Rattle.layout.specs.declared.Figures.{Figures}
-use Rattle.layout.proofs.Allowed.{allowed-of, layout-ok, layout-exact}
+use Rattle.layout.proofs.Allowed.{layout-ok, layout-exact}
 use Rattle.machine.specs.Flog.{mapWord, mapBlock}
 use Rattle.machine.specs.Handle.{laneAt, handleAllowed}
-use Rattle.machine.specs.Lane.{laneAllowed, startedLane, writeStores}
+use Rattle.machine.specs.Lane.{startedLane}
+use Rattle.machine.specs.Running.{LaneOk}
 use Rattle.machine.specs.Stores.{stored}
 use Rattle.machine.specs.Writing.{
   inFlight,
@@ -28,6 +26,7 @@ use Rattle.machine.specs.Writing.{
   startOf,
   stepNumber,
   stepOf,
+  writeNumber,
   Outcome,
   withLane,
   storeAt,
@@ -37,8 +36,8 @@ use Rattle.machine.specs.Writing.{
 use Rattle.machine.specs.declared.lane.Lane.{Lane}
 use Rattle.machine.specs.declared.handle.Handle.{Handle}
 use Rattle.machine.proofs.Rows.{passed}
-use Rattle.machine.proofs.Reflect.{length-ok}
-use Rattle.writing.specs.Gave.{RecordFit}
+use Rattle.machine.proofs.Running.{handle-ok}
+use Rattle.writing.specs.Gave.{WriteGives, RecordFit}
 
 -- a search of the records, turn by turn
 module _ (lanes : List Lane) (s : ℕ) where
@@ -60,114 +59,133 @@ module _ (lanes : List Lane) (s : ℕ) where
 
 -- what rule 16 gives
 module _ (h : Handle) (n : ℕ) (e : handleAllowed h n ≡ true) where
-  parts : (lengthAllowed n ≡ true) × (figuresAllowed (h .figures) n ≡ true)
-      × (every (h .figures .lanes) (λ l. laneAllowed (layoutOf (h .figures)) (laneAt (h .lanes) l)) ≡ true)
-  unfolding handleAllowed
-  parts =
-      let p = and-elim (lengthAllowed n) _ e in
-      let q = and-elim (eqb (h .length) n) _ (p .1) in
-      let r = and-elim (figuresAllowed (h .figures) n) _ (q .1) in
-      (p .0, r .0, r .1)
-
   pub handle-fit : Fit (h .figures) n
   handle-fit =
-      let a = allowed-of (h .figures) n (parts .1) in
-      let m = length-ok n (parts .0) in
+      let o = handle-ok h n e in
       record {
-        ok = layout-ok (h .figures) n a (m .most);
-        few = a .few-lanes;
-        starts = omega (arith, a .copy-start, m .most);
-        room = omega (arith, layout-exact (h .figures) n a);
-        whole = omega (arith, m .multiple);
+        ok = layout-ok (h .figures) n (o .figures) (o .size .most);
+        few = o .figures .few-lanes;
+        starts = omega (arith, o .figures .copy-start, o .size .most);
+        room = omega (arith, layout-exact (h .figures) n (o .figures));
+        whole = omega (arith, o .size .multiple);
       }
 
-  pub size-small : h .figures .size ≤ 4096
-  size-small = ⊎-elim (λ x. omega arith) (λ x. omega arith) (allowed-of (h .figures) n (parts .1) .size)
+  -- a record in range can make any store of a write
+  pub record-fit : (l k : ℕ) (r : Lane) → l < h .figures .lanes → LaneOk (layoutOf (h .figures)) r → k < h .figures .size / 4 + 5
+      → RecordFit (h .figures) l r k
+  unfolding layoutOf
+  record-fit l k r u o v = record {
+    lane = u;
+    block = o .block;
+    half = ⊎-elim (λ x. omega arith) (λ x. omega arith) (o .half);
+    sector = o .sector;
+    store = v;
+    size = ⊎-elim (λ x. omega arith) (λ x. omega arith) (handle-ok h n e .figures .size);
+    blocks = handle-fit .ok .small;
+  }
 
-  pub record-fit : (l : ℕ) → l < h .figures .lanes → RecordFit (h .figures) l (laneAt (h .lanes) l) (laneAt (h .lanes) l .made)
-  unfolding laneAllowed layoutOf
-  record-fit l k =
-      let r = laneAt (h .lanes) l in
-      let g = layoutOf (h .figures) in
-      let p = all-elim (
-      ltb (r .block .0) (g .I) ∷ ltb (r .old .0) (g .I) ∷ ltb (r .half) 2 ∷ isSet (r .sequence .0)
-      ∷ ltb (r .sector .0) (g .E) ∷ ltb (r .made) (writeStores g) ∷ [])
-      (every-elim (h .figures .lanes) (λ i. laneAllowed (layoutOf (h .figures)) (laneAt (h .lanes) i)) (parts .2) l k) in
-      record {
-        lane = k;
-        block = ltb-true _ _ (p .0);
-        half = ltb-true _ _ (p .1 .1 .0);
-        sector = ltb-true _ _ (p .1 .1 .1 .1 .0);
-        store = ltb-true _ _ (p .1 .1 .1 .1 .1 .0);
-        size = size-small;
-        blocks = handle-fit .ok .small;
-      }
+  -- so can a lane's record its next one
+  pub next-fit : (l : ℕ) → l < h .figures .lanes → RecordFit (h .figures) l (laneAt (h .lanes) l) (laneAt (h .lanes) l .made)
+  unfolding layoutOf
+  next-fit l u = let o = handle-ok h n e .lanes l u in record-fit l (laneAt (h .lanes) l .made) (laneAt (h .lanes) l) u o (o .made)
 
 -- rule 7, at a word that is the map word
 pub word-test : (blocks w v : ℕ) (t u : Bool) → w ≡ v → t ≡ badWord blocks w → t ≡ u → badWord blocks v ≡ u
 word-test blocks w v t u e f p = ap (λ (x : ℕ). badWord blocks x) (sym e) ∙ sym f ∙ p
 
--- the answers of a start
-module _ (a : List ℕ) (h : Handle) (l s : ℕ) where
-  pub start-16 : handleAllowed h (length a) ≡ false → 16 ≡ startNumber a h l s
-  unfolding startNumber
-  start-16 p = rw p
+-- the answers of a write
+module _ (a : List ℕ) (h : Handle) (l s : ℕ) (buffer : List ℕ) where
+  pub write-16 : handleAllowed h (length a) ≡ false → 16 ≡ writeNumber a h l s buffer
+  unfolding writeNumber
+  write-16 p = rw p
 
   module _ (allowed : handleAllowed h (length a) ≡ true) where
-    pub start-11 : h .figures .lanes ≤ l → 11 ≡ startNumber a h l s
-    unfolding startNumber
-    start-11 p = rw (allowed, le-leb _ _ p)
+    pub write-11 : h .figures .lanes ≤ l → 11 ≡ writeNumber a h l s buffer
+    unfolding writeNumber
+    write-11 p = rw (allowed, le-leb _ _ p)
 
     module _ (lane : l < h .figures .lanes) where
-      pub start-12 : laneAt (h .lanes) l .busy ≡ true → 12 ≡ startNumber a h l s
-      unfolding startNumber
-      start-12 p = rw (allowed, lt-leb _ _ lane, p)
+      pub write-12 : laneAt (h .lanes) l .busy ≡ true → 12 ≡ writeNumber a h l s buffer
+      unfolding writeNumber
+      write-12 p = rw (allowed, lt-leb _ _ lane, p)
 
       module _ (idle : laneAt (h .lanes) l .busy ≡ false) where
-        pub start-9 : h .figures .sectors ≤ s → 9 ≡ startNumber a h l s
-        unfolding startNumber
-        start-9 p = rw (allowed, lt-leb _ _ lane, idle, le-leb _ _ p)
+        pub write-9 : h .figures .sectors ≤ s → 9 ≡ writeNumber a h l s buffer
+        unfolding writeNumber
+        write-9 p = rw (allowed, lt-leb _ _ lane, idle, le-leb _ _ p)
 
         module _ (sector : s < h .figures .sectors) where
-          pub start-13 : inFlight (h .lanes) (h .figures .lanes) s ≡ true → 13 ≡ startNumber a h l s
-          unfolding startNumber
-          start-13 p = rw (allowed, lt-leb _ _ lane, idle, lt-leb _ _ sector, p)
+          pub write-10 : eqb (length buffer) (h .figures .size) ≡ false → 10 ≡ writeNumber a h l s buffer
+          unfolding writeNumber
+          write-10 p = rw (allowed, lt-leb _ _ lane, idle, lt-leb _ _ sector, p)
 
-          module _ (alone : inFlight (h .lanes) (h .figures .lanes) s ≡ false) where
-            pub start-7 : badWord (h .figures .blocks) (mapWord (layoutOf (h .figures)) a s) ≡ true → 7 ≡ startNumber a h l s
-            unfolding startNumber
-            start-7 p = rw (allowed, lt-leb _ _ lane, idle, lt-leb _ _ sector, alone, p)
+          module _ (fits : eqb (length buffer) (h .figures .size) ≡ true) where
+            pub write-13 : inFlight (h .lanes) (h .figures .lanes) s ≡ true → 13 ≡ writeNumber a h l s buffer
+            unfolding writeNumber
+            write-13 p = rw (allowed, lt-leb _ _ lane, idle, lt-leb _ _ sector, fits, p)
 
-            pub start-0 : badWord (h .figures .blocks) (mapWord (layoutOf (h .figures)) a s) ≡ false → 0 ≡ startNumber a h l s
-            unfolding startNumber
-            start-0 p = rw (allowed, lt-leb _ _ lane, idle, lt-leb _ _ sector, alone, p)
+            module _ (alone : inFlight (h .lanes) (h .figures .lanes) s ≡ false) where
+              pub write-7 : badWord (h .figures .blocks) (mapWord (layoutOf (h .figures)) a s) ≡ true → 7 ≡ writeNumber a h l s buffer
+              unfolding writeNumber
+              write-7 p = rw (allowed, lt-leb _ _ lane, idle, lt-leb _ _ sector, fits, alone, p)
 
-  -- what a start gives, refused and not
-  module _ (m : ℕ) (e : m ≡ startNumber a h l s) where
-    pub start-refused : eqb m 0 ≡ false → _≡_ {A = Outcome} (record { number = m; arena = a; handle = h }) (startOf a h l s)
+              pub write-0 : badWord (h .figures .blocks) (mapWord (layoutOf (h .figures)) a s) ≡ false → 0 ≡ writeNumber a h l s buffer
+              unfolding writeNumber
+              write-0 p = rw (allowed, lt-leb _ _ lane, idle, lt-leb _ _ sector, fits, alone, p)
+
+  -- what a write that is not refused found
+  pub write-passed : writeNumber a h l s buffer ≡ 0
+      → (handleAllowed h (length a) ≡ true) × (l < h .figures .lanes) × (s < h .figures .sectors) × (length buffer ≡ h .figures .size)
+      × (badWord (h .figures .blocks) (mapWord (layoutOf (h .figures)) a s) ≡ false)
+  unfolding writeNumber
+  write-passed e =
+      let p1 = passed (not (handleAllowed h (length a))) 15 _ e in
+      let p2 = passed (leb (h .figures .lanes) l) 10 _ (p1 .1) in
+      let p3 = passed (laneAt (h .lanes) l .busy) 11 _ (p2 .1) in
+      let p4 = passed (leb (h .figures .sectors) s) 8 _ (p3 .1) in
+      let p5 = passed (not (eqb (length buffer) (h .figures .size))) 9 _ (p4 .1) in
+      let p6 = passed (inFlight (h .lanes) (h .figures .lanes) s) 12 _ (p5 .1) in
+      let p7 = passed (badWord (h .figures .blocks) (mapWord (layoutOf (h .figures)) a s)) 6 _ (p6 .1) in
+      (not-false _ (p1 .0), leb-false _ _ (p2 .0), leb-false _ _ (p4 .0), eqb-true _ _ (not-false _ (p5 .0)), p7 .0)
+
+  -- where its buffer fits it is judged as a start
+  pub write-start : eqb (length buffer) (h .figures .size) ≡ true → writeNumber a h l s buffer ≡ startNumber a h l s
+  unfolding writeNumber startNumber
+  write-start e = rw e
+
+-- what a start gives, judged as a write whose buffer fits, refused and not
+module _ (a : List ℕ) (h : Handle) (l s m : ℕ) (e : WriteGives a h l s true m) where
+  -- a buffer that fits
+  zeroes : List ℕ
+  zeroes = replicate (h .figures .size) 0
+
+  fits : true ≡ eqb (length zeroes) (h .figures .size)
+  unfolding zeroes
+  fits = sym (eq-eqb _ _ (length-replicate (h .figures .size) 0))
+
+  judged : m ≡ startNumber a h l s
+  judged = e zeroes fits ∙ write-start a h l s zeroes (sym fits)
+
+  pub start-refused : eqb m 0 ≡ false → _≡_ {A = Outcome} (record { number = m; arena = a; handle = h }) (startOf a h l s)
+  unfolding startOf
+  start-refused p = rw (← judged, p)
+
+  module _ (p : eqb m 0 ≡ true) where
+    pub start-done :
+        _≡_ {A = Outcome}
+        (record {
+          number = m;
+          arena = a;
+          handle = withLane h l (startedLane (laneAt (h .lanes) l) s (mapBlock (layoutOf (h .figures)) a s));
+        })
+        (startOf a h l s)
     unfolding startOf
-    start-refused p = rw (← e, p)
+    start-done = rw (← judged, p)
 
-    module _ (p : eqb m 0 ≡ true) where
-      pub start-done :
-          _≡_ {A = Outcome}
-          (record {
-            number = m;
-            arena = a;
-            handle = withLane h l (startedLane (laneAt (h .lanes) l) s (mapBlock (layoutOf (h .figures)) a s));
-          })
-          (startOf a h l s)
-      unfolding startOf
-      start-done = rw (← e, p)
-
-      pub start-passed : (handleAllowed h (length a) ≡ true) × (l < h .figures .lanes) × (s < h .figures .sectors)
-      unfolding startNumber
-      start-passed =
-          let p1 = passed (not (handleAllowed h (length a))) 15 _ (sym e ∙ eqb-true m 0 p) in
-          let p2 = passed (leb (h .figures .lanes) l) 10 _ (p1 .1) in
-          let p3 = passed (laneAt (h .lanes) l .busy) 11 _ (p2 .1) in
-          let p4 = passed (leb (h .figures .sectors) s) 8 _ (p3 .1) in
-          (not-false _ (p1 .0), leb-false _ _ (p2 .0), leb-false _ _ (p4 .0))
+    pub start-passed : Fit (h .figures) (length a) × (l < h .figures .lanes) × (s < h .figures .sectors)
+    start-passed =
+        let q = write-passed a h l s zeroes (sym (e zeroes fits) ∙ eqb-true m 0 p) in
+        (handle-fit h (length a) (q .0), q .1, q .2)
 
 -- the answers of a step
 module _ (a : List ℕ) (h : Handle) (l : ℕ) (buffer : List ℕ) where

@@ -1,4 +1,4 @@
-// Starting a write, and one step of it.
+// Starting a write, one step of it, and a whole write.
 use format::map::bad_word;
 use format::map::mapped_word;
 use format::numbers::LaneNo;
@@ -18,17 +18,20 @@ use words::word_at;
 ghost use mathlib.Core.Path.{_≡_};
 ghost use mathlib.Core.Bool.{_&&_};
 ghost use mathlib.Core.List.{List};
-ghost use Prim.Native.Nat.{ℕ, _+_, _*_, _/_, _≤_, _<_};
+ghost use Prim.Native.Nat.{ℕ, _+_, _/_, _≤_, _<_};
 ghost use lib.ListN.{length};
 ghost use lib.Dec.{eqb};
 ghost use Rattle.layout.specs.Place.{layoutOf, at};
 ghost use Rattle.layout.specs.Fit.{Fit};
 ghost use Rattle.machine.specs.Answer.{numberOf};
+ghost use Rattle.machine.specs.Flog.{mapBlock};
+ghost use Rattle.machine.specs.Handle.{laneAt};
+ghost use Rattle.machine.specs.Lane.{startedLane, writeStores};
 ghost use Rattle.machine.specs.Stores.{stored};
-ghost use Rattle.machine.specs.Writing.{planOf, storeAt, laneStored, withLane, inFlight, startNumber, startOf, stepNumber, stepOf};
-ghost use Rattle.writing.specs.Gave.{stepGave, RecordFit};
+ghost use Rattle.machine.specs.Writing.{planOf, storeAt, laneStored, withLane, inFlight, startOf, stepNumber, stepOf, writeOf};
+ghost use Rattle.writing.specs.Gave.{stepGave, WriteGives, withStores, RecordFit};
 
-// What a start or a step gives: the answer, and the handle as it then is.
+// What a start, a step or a whole write gives: the answer, and the handle as it then is.
 pub struct Stepped {
     pub answer: Answer,
     pub handle: Handle,
@@ -71,9 +74,9 @@ fn with_lane(mut h: Handle, lane: LaneNo, r: Lane) -> Handle
     h
 }
 
-// Judges a start: 16, 11, 12, 9, 13, 7.
-fn judge_start(arena: &[u8], h: Handle, lane: LaneNo, sector: SectorNo) -> Answer
-    ensures { λ r. ⌜ numberOf r ≡ startNumber (now (arena .entry)) h (lane .0) (sector .0) ⌝ }
+// Judges a write whose buffer fits, or not: 16, 11, 12, 9, 10, 13, 7.
+fn judge_write(arena: &[u8], h: Handle, lane: LaneNo, sector: SectorNo, fits: bool) -> Answer
+    ensures { λ r. ⌜ WriteGives (now (arena .entry)) h (lane .0) (sector .0) fits (numberOf r) ⌝ }
 {
     if !handle_allowed(h, arena.len()) {
         return Answer::BadHandle;
@@ -90,6 +93,9 @@ fn judge_start(arena: &[u8], h: Handle, lane: LaneNo, sector: SectorNo) -> Answe
     if f.sectors <= sector.0 {
         return Answer::NoSuchSector;
     }
+    if !fits {
+        return Answer::WrongBuffer;
+    }
     if in_flight(h, f.lanes, sector) {
         return Answer::SectorBusy;
     }
@@ -99,22 +105,30 @@ fn judge_start(arena: &[u8], h: Handle, lane: LaneNo, sector: SectorNo) -> Answe
     Answer::Done
 }
 
-// Starts a write to a sector on an idle lane; nothing is stored.
+// A lane's record with a write to a sector begun.
+fn begun(arena: &[u8], h: Handle, lane: LaneNo, sector: SectorNo) -> Lane
+    requires { ⌜ Fit (h .figures) (length (now arena)) × (lane .0 < h .figures .lanes) × (sector .0 < h .figures .sectors) ⌝ }
+    ensures { λ r. ⌜ r ≡ startedLane (laneAt (h .lanes) (lane .0)) (sector .0) (mapBlock (layoutOf (h .figures)) (now (arena .entry)) (sector .0)) ⌝ }
+{
+    let i = lane.0 as usize;
+    let r = h.lanes[i];
+    let old = map_block(arena, h.figures, sector);
+    r.start(sector, old)
+}
+
+// Starts a write to a sector on an idle lane; nothing is stored. It is judged as a write whose buffer fits.
 pub fn start(arena: &[u8], h: Handle, lane: LaneNo, sector: SectorNo) -> Stepped
     ensures { λ r. ⌜ stepGave r (now (arena .entry)) ≡ startOf (now (arena .entry)) h (lane .0) (sector .0) ⌝ }
 {
-    let answer = judge_start(arena, h, lane, sector);
+    let answer = judge_write(arena, h, lane, sector, true);
     if !answer.is_done() {
         return Stepped {
             answer: answer,
             handle: h,
         };
     }
-    let i = lane.0 as usize;
-    let r = h.lanes[i];
-    let old = map_block(arena, h.figures, sector);
-    let begun = r.start(sector, old);
-    let next = with_lane(h, lane, begun);
+    let r = begun(arena, h, lane, sector);
+    let next = with_lane(h, lane, r);
     Stepped {
         answer: answer,
         handle: next,
@@ -122,7 +136,7 @@ pub fn start(arena: &[u8], h: Handle, lane: LaneNo, sector: SectorNo) -> Stepped
 }
 
 // The word number of store k of the write that a record has in flight.
-fn store_place(f: Figures, lane: LaneNo, r: Lane, k: u32) -> usize
+pub fn store_place(f: Figures, lane: LaneNo, r: Lane, k: u32) -> usize
     requires { ⌜ RecordFit f (lane .0) r k ⌝ }
     ensures { λ t. ⌜ ((bytes : List ℕ) → t ≡ at (layoutOf f) (storeAt (layoutOf f) (planOf (lane .0) r) bytes k .place)) ⌝ }
 {
@@ -170,6 +184,19 @@ fn put_store(arena: &mut [u8], f: Figures, lane: LaneNo, r: Lane, buffer: &[u8],
     let i = store_place(f, lane, r, k);
     let v = store_value(f, lane, r, buffer, k);
     put_word(arena, i, v);
+}
+
+// Makes all stores of a write, in their order.
+fn put_stores(arena: &mut [u8], f: Figures, lane: LaneNo, r: Lane, buffer: &[u8])
+    requires { ⌜ Fit f (length (now arena)) × RecordFit f (lane .0) r 0 × (length (now buffer) ≡ f .size) ⌝ }
+    ensures { λ _. ⌜ now (arena .exit) ≡ withStores f (lane .0) r (now (buffer .entry)) (writeStores (layoutOf f)) (now (arena .entry)) ⌝ }
+{
+    let end = f.size / 4 + 5;
+    let mut k: u32 = 0;
+    while k < end {
+        put_store(arena, f, lane, r, buffer, k);
+        k += 1;
+    }
 }
 
 // The record after one more store.
@@ -222,6 +249,28 @@ pub fn step(arena: &mut [u8], h: Handle, lane: LaneNo, buffer: &[u8]) -> Stepped
     put_store(arena, f, lane, r, buffer, r.made);
     let after = moved(f, r);
     let next = with_lane(h, lane, after);
+    Stepped {
+        answer: answer,
+        handle: next,
+    }
+}
+
+// Makes a whole write: start and all steps in one call, refused before any store.
+pub fn write(arena: &mut [u8], h: Handle, lane: LaneNo, sector: SectorNo, buffer: &[u8]) -> Stepped
+    ensures { λ r. ⌜ stepGave r (now (arena .exit)) ≡ writeOf (now (arena .entry)) h (lane .0) (sector .0) (now (buffer .entry)) ⌝ }
+{
+    let fits = buffer.len() == h.figures.size as usize;
+    let answer = judge_write(arena, h, lane, sector, fits);
+    if !answer.is_done() {
+        return Stepped {
+            answer: answer,
+            handle: h,
+        };
+    }
+    let r = begun(arena, h, lane, sector);
+    put_stores(arena, h.figures, lane, r, buffer);
+    let done = r.finished();
+    let next = with_lane(h, lane, done);
     Stepped {
         answer: answer,
         handle: next,

@@ -1,5 +1,5 @@
 -- `writing::step` meets its contract. What is not refused has figures that fit and a record in range, so its next store is within the arena.
-use Rattle.writing.proofs.Rules.{handle-fit, record-fit, step-refused, step-done, step-passed}
+use Rattle.writing.proofs.Rules.{handle-fit, next-fit, step-refused, step-done, step-passed}
 use native.Mathlib.Omega.{arith}
 use borrow.Author.Tests.{not-true, not-false}
 use mathlib.Core.Path.{sym, _∙_}
@@ -39,14 +39,14 @@ put-store-requires c κs = let e = c .before .before .before .before in
     let d = e .before in
     let j = d .before in
     let p = step-passed _ _ _ _ _ (j .judge-step .ensures) (sym (d .is-done .ensures) ∙ not-false (d .is-done .result) (e .if1 .left)) in
-    (handle-fit _ _ (p .0), record-fit _ _ (p .0) _ (p .1), p .2)
+    (handle-fit _ _ (p .0), next-fit _ _ (p .0) _ (p .1), p .2)
 
 moved-requires : tie.Need-moved-requires
 moved-requires c κs = let e = c .before .before .before .before .before .before .before in
     let d = e .before in
     let j = d .before in
     let p = step-passed _ _ _ _ _ (j .judge-step .ensures) (sym (d .is-done .ensures) ∙ not-false (d .is-done .result) (e .if1 .left)) in
-    let r = record-fit _ _ (p .0) _ (p .1) in
+    let r = next-fit _ _ (p .0) _ (p .1) in
     (r .half, r .store, r .size)
 
 with-lane-requires : tie.Need-with-lane-requires

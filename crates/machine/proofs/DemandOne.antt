@@ -1,0 +1,96 @@
+-- Demand 1, put together from the claims about the calls. The info block that counts goes by the length and by which block is sound;
+-- it is empty exactly where one of the first two tests of opening holds, and the others give 3 or more.
+use mathlib.Core.Path.{_≡_, _∙_}
+use mathlib.Core.Logic.{_⊎_, inl, inr, ⊎-elim}
+use mathlib.Core.Bool.{Bool, true, false, cond, not}
+use mathlib.Core.List.{List, []}
+use Prim.Native.Nat.{ℕ, _-_}
+use native.Mathlib.Omega.{arith}
+use lib.Dec.{eqb, ltb}
+use lib.ListN.{length, take, drop}
+use Rattle.format.proofs.Tests.{by-bool}
+use Rattle.format.proofs.Below.{below-take, below-drop}
+use Rattle.layout.specs.Figures.{lengthAllowed}
+use Rattle.infoblock.specs.Info.{sound, infoBlockOf, infoAllowed, flagsField}
+use Rattle.infoblock.proofs.InfoBlock.{info-in, counting-main, counting-copy, counting-none}
+use Rattle.machine.specs.Opening.{layoutIn, openNumber, openOf, cutOpenOf}
+use Rattle.machine.specs.Valid.{Small, LengthOk, Sound}
+use Rattle.machine.specs.DemandOne.{InfoBlockShown, CutOpening, DemandOne}
+use Rattle.machine.proofs.Reflect.{length-ok, ok-length, sound-ok, ok-sound, none-sound}
+use Rattle.machine.proofs.Opens.{lanesLost, wordBad, unsettled}
+use Rattle.machine.proofs.Making.{making-claim}
+use Rattle.machine.proofs.Claim.{opening-claim}
+use Rattle.machine.proofs.Running.{running-claim}
+
+-- tests false by what they would give
+unsound : (b : List ℕ) → Small b → (Sound b → ⊥) → sound b ≡ false
+unsound b small n = by-bool (sound b) _ (λ e. absurd (n (sound-ok b small e))) (λ e. e)
+
+-- a length that is not allowed shows no block
+info-out : (a : List ℕ) → lengthAllowed (length a) ≡ false → infoBlockOf a ≡ []
+unfolding infoBlockOf
+info-out a e = rw e
+
+-- rules 3 to 8 give neither 1 nor 2
+later : (t3 t4 t5 t6 t7 t8 : Bool)
+    → (let n : ℕ = cond t3 3 (cond t4 4 (cond t5 5 (cond t6 6 (cond t7 7 (cond t8 8 0))))) in (n ≡ 1) ⊎ (n ≡ 2)) → ⊥
+later true t4 t5 t6 t7 t8 = ⊎-elim (λ e. omega arith) (λ e. omega arith)
+later false true t5 t6 t7 t8 = ⊎-elim (λ e. omega arith) (λ e. omega arith)
+later false false true t6 t7 t8 = ⊎-elim (λ e. omega arith) (λ e. omega arith)
+later false false false true t7 t8 = ⊎-elim (λ e. omega arith) (λ e. omega arith)
+later false false false false true t8 = ⊎-elim (λ e. omega arith) (λ e. omega arith)
+later false false false false false true = ⊎-elim (λ e. omega arith) (λ e. omega arith)
+later false false false false false false = ⊎-elim (λ e. omega arith) (λ e. omega arith)
+
+module _ (a : List ℕ) (small : Small a) where
+  main-unsound : (Sound (take 4096 a) → ⊥) → sound (take 4096 a) ≡ false
+  main-unsound = unsound (take 4096 a) (below-take 256 4096 a (omega arith) small)
+
+  copy-unsound : (Sound (drop (length a - 4096) a) → ⊥) → sound (drop (length a - 4096) a) ≡ false
+  copy-unsound = unsound (drop (length a - 4096) a) (below-drop 256 (length a - 4096) a small)
+
+  nothing : (LengthOk (length a) → ⊥) ⊎ ((Sound (take 4096 a) → ⊥) × (Sound (drop (length a - 4096) a) → ⊥)) → infoBlockOf a ≡ []
+  nothing c = by-bool (lengthAllowed (length a)) (infoBlockOf a ≡ []) (λ e. ⊎-elim (λ n. absurd (n (length-ok (length a) e))) (both e) c) (info-out a)
+    where
+      both : lengthAllowed (length a) ≡ true → (Sound (take 4096 a) → ⊥) × (Sound (drop (length a - 4096) a) → ⊥) → infoBlockOf a ≡ []
+      both e p = info-in a e ∙ counting-none _ _ (main-unsound (p .0)) (copy-unsound (p .1))
+
+  under : (work : List ℕ) → ((openOf a work) .number ≡ 1) ⊎ ((openOf a work) .number ≡ 2) → infoBlockOf a ≡ []
+  unfolding openOf openNumber
+  under work c = by-bool (lengthAllowed (length a)) (infoBlockOf a ≡ [])
+      (λ e. by-bool (eqb (length (infoBlockOf a)) 0) (infoBlockOf a ≡ [])
+      (λ z. nothing (inr (none-sound a small e z)))
+      (λ z. absurd (later (not (infoAllowed (infoBlockOf a) (length a))) (not (eqb (flagsField (infoBlockOf a)) 0)) (ltb (length work) ((layoutIn a) .I))
+      (lanesLost (layoutIn a) a) (wordBad (layoutIn a) a) (unsettled (layoutIn a) a) (rw (e, z) at c))))
+      (info-out a)
+
+  only : (work : List ℕ) → infoBlockOf a ≡ [] → ((openOf a work) .number ≡ 1) ⊎ ((openOf a work) .number ≡ 2)
+  unfolding openOf openNumber
+  only work b = by-bool (lengthAllowed (length a)) (((openOf a work) .number ≡ 1) ⊎ ((openOf a work) .number ≡ 2))
+      (λ e. inr (rw (e, b))) (λ e. inl (rw e))
+
+  info-block : InfoBlockShown a
+  info-block = record {
+    main = λ l s. info-in a (ok-length (length a) l) ∙ counting-main _ _ (ok-sound _ s);
+    copy = λ l n s. info-in a (ok-length (length a) l) ∙ counting-copy _ _ (main-unsound n) (ok-sound _ s);
+    none = nothing;
+    under = under;
+    only = only;
+  }
+
+  cut-opening : (work : List ℕ) (k : ℕ) → CutOpening a work k
+  unfolding openOf cutOpenOf
+  cut-opening work k = record {
+    row = opening-claim .answers a work small .row;
+    refused = opening-claim .refused-cut a work k;
+    work-buffer = let w = opening-claim .work a work in record { alone = w .alone; cleared = w .cleared; size = w .size };
+  }
+
+pub demand-one : DemandOne
+demand-one = record {
+  making = making-claim;
+  info-block = info-block;
+  opening = opening-claim;
+  cut-opening = λ a work k small. cut-opening a small work k;
+  running = running-claim;
+}

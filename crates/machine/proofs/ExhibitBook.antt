@@ -1,0 +1,127 @@
+-- The run of `Exhibited` in the book, for any arena with its figures: the calls one by one, and many steps of one lane by recursion.
+use mathlib.Core.Path.{_≡_, refl}
+use mathlib.Core.Logic.{_≢_, ⊎-elim}
+use mathlib.Core.List.{List, [], _∷_, _++_, List·Memᴰ·not-nil, List·Memᴰ·cases-cons}
+use mathlib.Core.Bool.{true, false, _&&_}
+use Prim.Native.Nat.{ℕ, zero, suc, _+_, _≤_, _<_}
+use native.Mathlib.Omega.{arith}
+use native.Mathlib.Nat.{add-zero}
+use lib.Dec.{eqb}
+use lib.ListN.{length, replicate}
+use borrow.Author.Tests.{ne-eqb, lt-ltb, lt-leb}
+use Rattle.layout.specs.Figures.{madeFigures}
+use Rattle.layout.specs.Place.{layoutOf}
+use Rattle.machine.specs.Lane.{writeStores}
+use Rattle.machine.specs.Opening.{figuresIn, layoutIn}
+use Rattle.machine.specs.History.{Call, read, start, step, write}
+use Rattle.machine.specs.Book.{Entry, anyEntry, inFlightYet, laneFlies, sectorFlies, bookNumber, tallied, noted, lastWords}
+use Rattle.machine.proofs.Entries.{any-none, lane-none}
+use Rattle.machine.proofs.FirstArena.{First, first-word}
+use Rattle.machine.proofs.SimCalls.{Fresh}
+use Rattle.machine.proofs.BookPremise.{Goes, goes-none, goes-accepted, goes-refused, goes-append}
+
+-- the write on lane l to sector s with t stores made
+abbrev pub entry : ℕ → ℕ → ℕ → Entry
+entry l s t = record { lane = l; sector = s; tally = t }
+
+-- lanes 0 and 1 with t and u stores made
+abbrev pub both : ℕ → ℕ → List Entry
+both t u = entry 1 8 u ∷ entry 0 7 t ∷ []
+
+-- no write of the book is on the lane or to the sector
+abbrev Unused : List Entry → ℕ → ℕ → Type 0
+Unused b l s = Fresh b (start l s)
+
+unused-none : (l s : ℕ) → Unused [] l s
+unused-none l s d m = absurd (List·Memᴰ·not-nil m)
+
+unused-more : (b : List Entry) (l s : ℕ) (e : Entry) → e .lane ≢ l → e .sector ≢ s → Unused b l s → Unused (e ∷ b) l s
+unused-more b l s e p q u d m = ⊎-elim (λ r. rw r (p, q)) (u d) (List·Memᴰ·cases-cons m)
+
+-- the calls of the run
+abbrev pub together : (ℕ → List ℕ) → List Call
+together bytes = start 0 7 ∷ start 1 8 ∷ step 0 (bytes 0) ∷ step 1 (bytes 1) ∷ replicate 131 (step 0 (bytes 0))
+
+abbrev pub further : (ℕ → List ℕ) → List ℕ → List Call
+further bytes buffer = start 0 9 ∷ read 7 buffer ∷ write 2 10 (bytes 2) ∷ []
+
+module _ (a : List ℕ) (x : First a) (f : figuresIn a ≡ madeFigures 512 60 4) (bytes : ℕ → List ℕ)
+    (size : (l : ℕ) → length (bytes l) ≡ 512) where
+  stores : writeStores (layoutIn a) ≡ 133
+  unfolding layoutOf madeFigures
+  stores = rw f
+
+  -- ---- the numbers
+
+  unused-lane : (b : List Entry) (l s : ℕ) → Unused b l s → laneFlies a b l ≡ false
+  unused-lane b l s n = lane-none (inFlightYet a) b l (λ e m. n e m .0)
+
+  unused-sector : (b : List Entry) (l s : ℕ) → Unused b l s → sectorFlies a b s ≡ false
+  unused-sector b l s n = any-none (λ e. eqb (e .sector) s && inFlightYet a e) b (λ e m. rw (ne-eqb (e .sector) s (n e m .1)))
+
+  start-done : (b : List Entry) (l s : ℕ) → l < 4 → s < 60 → Unused b l s → bookNumber a b (start l s) ≡ 0
+  unfolding bookNumber madeFigures
+  start-done b l s u v n =
+      rw (unused-lane b l s n, unused-sector b l s n, first-word a x s (rw f v), f, lt-leb 4 l u, lt-leb 60 s v)
+
+  write-done : (b : List Entry) (l s : ℕ) → l < 4 → s < 60 → Unused b l s → bookNumber a b (write l s (bytes l)) ≡ 0
+  unfolding bookNumber madeFigures
+  write-done b l s u v n =
+      rw (unused-lane b l s n, unused-sector b l s n, first-word a x s (rw f v), f, lt-leb 4 l u, lt-leb 60 s v, size l)
+
+  step-done : (b : List Entry) (l : ℕ) → l < 4 → laneFlies a b l ≡ true → bookNumber a b (step l (bytes l)) ≡ 0
+  unfolding bookNumber madeFigures
+  step-done b l u p = rw (p, f, lt-leb 4 l u, size l)
+
+  start-busy : (b : List Entry) (l s : ℕ) → l < 4 → laneFlies a b l ≡ true → bookNumber a b (start l s) ≡ 12
+  unfolding bookNumber madeFigures
+  start-busy b l s u p = rw (p, f, lt-leb 4 l u)
+
+  read-done : (b : List Entry) (s : ℕ) (buffer : List ℕ) → s < 60 → length buffer ≡ 512 → bookNumber a b (read s buffer) ≡ 0
+  unfolding bookNumber madeFigures
+  read-done b s buffer u e = rw (f, lt-leb 60 s u, e)
+
+  -- ---- the run
+
+  both-fly : (t u : ℕ) → t < 133 → u < 133 → (laneFlies a (both t u) 0 ≡ true) × (laneFlies a (both t u) 1 ≡ true)
+  unfolding anyEntry
+  both-fly t u p q = rw (stores, lt-ltb t 133 p, lt-ltb u 133 q) (refl, refl)
+
+  -- n more stores on lane 0
+  steps : (n t : ℕ) → t + n ≤ 133 → Goes a bytes (both t 1) (replicate n (step 0 (bytes 0))) (both (t + n) 1)
+  unfolding tallied noted
+  steps zero t u = rw add-zero (goes-none a bytes _)
+  steps (suc n) t u =
+      let e : t + suc n ≡ t + 1 + n = omega arith in
+      goes-accepted a bytes _ _ (step 0 (bytes 0)) _ (step-done _ 0 (omega arith) (both-fly t 1 (omega arith) (omega arith) .0)) tt refl
+      (rw e (steps n (t + 1) (omega arith)))
+
+  pub goes-together : Goes a bytes [] (together bytes) (both 132 1)
+  unfolding noted tallied
+  goes-together =
+      let n = unused-more [] 1 8 (entry 0 7 0) (λ p. omega arith) (λ p. omega arith) (unused-none 1 8) in
+      goes-accepted a bytes _ _ (start 0 7) _ (start-done [] 0 7 (omega arith) (omega arith) (unused-none 0 7)) (unused-none 0 7) tt
+      (goes-accepted a bytes _ _ (start 1 8) _ (start-done _ 1 8 (omega arith) (omega arith) n) n tt
+      (goes-accepted a bytes _ _ (step 0 (bytes 0)) _ (step-done _ 0 (omega arith) (both-fly 0 0 (omega arith) (omega arith) .0)) tt refl
+      (goes-accepted a bytes _ _ (step 1 (bytes 1)) _ (step-done _ 1 (omega arith) (both-fly 1 0 (omega arith) (omega arith) .1)) tt refl
+      (steps 131 1 (omega arith)))))
+
+  pub then-refused : bookNumber a (both 132 1) (start 0 9) ≡ 12
+  then-refused = start-busy (both 132 1) 0 9 (omega arith) (both-fly 132 1 (omega arith) (omega arith) .0)
+
+  goes-further : (buffer : List ℕ) → length buffer ≡ 512 → Goes a bytes (both 132 1) (further bytes buffer) (entry 2 10 133 ∷ both 132 1)
+  unfolding noted
+  goes-further buffer e =
+      let n = unused-more (entry 0 7 132 ∷ []) 2 10 (entry 1 8 1) (λ p. omega arith) (λ p. omega arith)
+      (unused-more [] 2 10 (entry 0 7 132) (λ p. omega arith) (λ p. omega arith) (unused-none 2 10)) in
+      goes-refused a bytes _ _ (start 0 9) _ (λ p. omega (arith, then-refused))
+      (goes-accepted a bytes _ _ (read 7 buffer) _ (read-done _ 7 buffer (omega arith) e) tt tt
+      (goes-accepted a bytes _ _ (write 2 10 (bytes 2)) _ (write-done _ 2 10 (omega arith) (omega arith) n) n refl (rw stores (goes-none a bytes _))))
+
+  pub goes-all : (buffer : List ℕ) → length buffer ≡ 512 → Goes a bytes [] (together bytes ++ further bytes buffer) (entry 2 10 133 ∷ both 132 1)
+  goes-all buffer e = goes-append a bytes (together bytes) (further bytes buffer) [] (both 132 1) _ goes-together (goes-further buffer e)
+
+  -- one of the writes lacks only its map word
+  pub one-last : length (lastWords a (entry 2 10 133 ∷ both 132 1)) ≡ 1
+  unfolding lastWords
+  one-last = rw stores

@@ -1,0 +1,187 @@
+-- The writes of a book that lack only their map word: opening finds just their lanes pending, as many, and its stores are their map words.
+use mathlib.Core.Path.{_≡_, refl, sym, ap, ap₂, _∙_}
+use mathlib.Core.Logic.{⊎-elim}
+use mathlib.Core.List.{
+  List,
+  [],
+  _∷_,
+  _++_,
+  List·Memᴰ,
+  List·Memᴰ·head,
+  List·Memᴰ·tail,
+  List·Memᴰ·not-nil,
+  List·Memᴰ·eq-of-singleton,
+  List·Memᴰ·append-cases,
+  Memᴰ·append-left,
+  Memᴰ·append-right,
+  Memᴰ·cast,
+}
+use mathlib.Core.Bool.{Bool, true, false, cond, _&&_, _||_}
+use Prim.Native.Nat.{ℕ, zero, suc, _+_, _<_}
+use native.Mathlib.Omega.{arith}
+use native.Mathlib.Decide.{ℕ-discrete}
+use lib.Dec.{eqb}
+use lib.ListN.{length, length-append}
+use borrow.Author.Tests.{eqb-true, eq-eqb, ne-eqb, lt-ltb}
+use Rattle.format.specs.MapWord.{mappedTo}
+use Rattle.format.proofs.Tests.{true-false, by-bool, and-elim}
+use Rattle.layout.specs.Place.{Layout, inMap}
+use Rattle.machine.specs.declared.lane.Lane.{Lane}
+use Rattle.machine.specs.Lane.{writeStores}
+use Rattle.machine.specs.Handle.{laneAt}
+use Rattle.machine.specs.Stores.{Store}
+use Rattle.machine.specs.Flog.{freeOf, pending}
+use Rattle.machine.specs.Opening.{layoutIn, mends, pendingLanes, count}
+use Rattle.machine.specs.Book.{Entry, anyEntry, inFlightYet, lacksMapWord, lastWords}
+use Rattle.machine.specs.DemandThree.{Differ, Same}
+use Rattle.machine.proofs.Once.{hit, count-same, count-change}
+use Rattle.machine.proofs.Inv.{Inv}
+use Rattle.machine.proofs.Finish.{finalStore}
+use Rattle.machine.proofs.Found.{ended, finals, pending-is, mends-are}
+use Rattle.machine.proofs.Entries.{any-some, lane-none, lane-test}
+use Rattle.machine.proofs.BookLanes.{LaneOf, untouched, written, flyingLane, laneWith, lane-at, lane-flying, lane-moved}
+
+-- ---- the members of the two lists
+
+module _ (g : Layout) (lanes : List Lane) where
+  finals-in : (n l : ℕ) → l < n → ended g (laneAt lanes l) ≡ true → List·Memᴰ (finalStore (laneAt lanes l)) (finals g lanes n)
+  unfolding finals
+  finals-in zero l u e = absurd (omega arith)
+  finals-in (suc n) l u e = go (ℕ-discrete l n) (λ v. finals-in n l v e)
+    where
+      go : Dec (l ≡ n) → (l < n → List·Memᴰ (finalStore (laneAt lanes l)) (finals g lanes n))
+          → List·Memᴰ (finalStore (laneAt lanes l)) (finals g lanes n ++ cond (ended g (laneAt lanes n)) (finalStore (laneAt lanes n) ∷ []) [])
+      go (yes p) ih = Memᴰ·append-right (finals g lanes n) (rw (← p, e) (List·Memᴰ·head refl))
+      go (no p) ih = Memᴰ·append-left _ (ih (omega arith))
+
+  finals-out : (n : ℕ) (st : Store) → List·Memᴰ st (finals g lanes n)
+      → (l : ℕ) × (l < n) × (ended g (laneAt lanes l) ≡ true) × (st ≡ finalStore (laneAt lanes l))
+  unfolding finals
+  finals-out zero st m = absurd (List·Memᴰ·not-nil m)
+  finals-out (suc n) st m = ⊎-elim (λ k. let r = finals-out n st k in (r .0, omega (arith, r .1), r .2, r .3))
+      (λ k. one (ended g (laneAt lanes n)) refl k) (List·Memᴰ·append-cases (finals g lanes n) m)
+    where
+      one : (t : Bool) → ended g (laneAt lanes n) ≡ t → List·Memᴰ st (cond t (finalStore (laneAt lanes n) ∷ []) [])
+          → (l : ℕ) × (l < suc n) × (ended g (laneAt lanes l) ≡ true) × (st ≡ finalStore (laneAt lanes l))
+      one true e k = (n, omega arith, e, List·Memᴰ·eq-of-singleton k)
+      one false e k = absurd (List·Memᴰ·not-nil k)
+
+count-none : (n : ℕ) → count n (λ l. 0) 1 ≡ 0
+unfolding count
+count-none zero = refl
+count-none (suc n) = rw (count-none n)
+
+-- pending lanes, counted
+pending-count : (g : Layout) (a : List ℕ) (n : ℕ) → pendingLanes g a n ≡ count n (λ l. cond (pending g a l) 1 0) 1
+unfolding pendingLanes count
+pending-count g a zero = refl
+pending-count g a (suc n) = ap₂ (λ x y. x + y) (pending-count g a n) (one (pending g a n))
+  where
+    one : (t : Bool) → _≡_ {A = ℕ} (cond t 1 0) (cond (eqb 1 (cond t 1 0)) 1 0)
+    one true = refl
+    one false = refl
+
+module _ (a : List ℕ) where
+  -- the map word of a write
+  abbrev pub lastOf : Entry → Store
+  lastOf e = record { place = inMap (e .sector); value = mappedTo (freeOf (layoutIn a) a (e .lane)) }
+
+  pub last-in : (b : List Entry) (e : Entry) → List·Memᴰ e b → lacksMapWord a e ≡ true → List·Memᴰ (lastOf e) (lastWords a b)
+  unfolding lastWords
+  last-in b e (List·Memᴰ·head {x = d} p) t = Memᴰ·append-left {s = cond (lacksMapWord a d) (lastOf d ∷ []) []} _ (rw (← p, t) (List·Memᴰ·head refl))
+  last-in b e (List·Memᴰ·tail {x = d} {xs = c} m) t = Memᴰ·append-right (cond (lacksMapWord a d) (lastOf d ∷ []) []) (last-in c e m t)
+
+  pub last-out : (b : List Entry) (st : Store) → List·Memᴰ st (lastWords a b)
+      → (e : Entry) × List·Memᴰ e b × (lacksMapWord a e ≡ true) × (st ≡ lastOf e)
+  unfolding lastWords
+  last-out [] st m = absurd (List·Memᴰ·not-nil m)
+  last-out (e ∷ b) st m = ⊎-elim (λ k. one (lacksMapWord a e) refl k)
+      (λ k. let r = last-out b st k in (r .0, List·Memᴰ·tail (r .1), r .2, r .3))
+      (List·Memᴰ·append-cases (cond (lacksMapWord a e) (lastOf e ∷ []) []) m)
+    where
+      one : (t : Bool) → lacksMapWord a e ≡ t → List·Memᴰ st (cond t (lastOf e ∷ []) [])
+          → (d : Entry) × List·Memᴰ d (e ∷ b) × (lacksMapWord a d ≡ true) × (st ≡ lastOf d)
+      one true t k = (e, List·Memᴰ·head refl, t, List·Memᴰ·eq-of-singleton k)
+      one false t k = absurd (List·Memᴰ·not-nil k)
+
+  -- ---- which lanes lack only that
+
+  abbrev laneLacks : List Entry → ℕ → Bool
+  laneLacks b l = anyEntry (λ e. eqb (e .lane) l && lacksMapWord a e) b
+
+  lacks-flies : (e : Entry) → lacksMapWord a e ≡ true → inFlightYet a e ≡ true
+  lacks-flies e t = lt-ltb (e .tally) (writeStores (layoutIn a)) (omega (arith, eqb-true (e .tally + 1) (writeStores (layoutIn a)) t))
+
+  with-ended : (e : Entry) → ended (layoutIn a) (laneWith a e) ≡ lacksMapWord a e
+  with-ended e = by-bool (inFlightYet a e) _ (λ t. rw (lane-flying a e t) (same (ℕ-discrete (e .tally) ((layoutIn a) .W + 4))))
+      (λ t. rw (lane-moved a e t) (ne-eqb 0 ((layoutIn a) .W + 4) (λ p. omega arith)
+      ∙ sym (by-bool (lacksMapWord a e) _ (λ v. true-false (sym (lacks-flies e v) ∙ t)) (λ v. v))))
+    where
+      same : Dec (e .tally ≡ (layoutIn a) .W + 4) → eqb (e .tally) ((layoutIn a) .W + 4) ≡ eqb (e .tally + 1) ((layoutIn a) .W + 5)
+      same (yes p) = eq-eqb (e .tally) ((layoutIn a) .W + 4) p ∙ sym (eq-eqb (e .tally + 1) ((layoutIn a) .W + 5) (omega arith))
+      same (no p) = ne-eqb (e .tally) ((layoutIn a) .W + 4) p ∙ sym (ne-eqb (e .tally + 1) ((layoutIn a) .W + 5) (λ q. p (omega arith)))
+
+  -- counted by lanes
+  last-count : (b : List Entry) → Differ b → ((e : Entry) → List·Memᴰ e b → e .lane < (layoutIn a) .N)
+      → length (lastWords a b) ≡ count ((layoutIn a) .N) (λ l. cond (laneLacks b l) 1 0) 1
+  unfolding lastWords anyEntry
+  last-count [] f u = sym (count-none ((layoutIn a) .N))
+  last-count (e ∷ b) f u =
+      rw length-append (omega (
+        arith,
+        last-count b (f .1) (λ d m. u d (List·Memᴰ·tail m)),
+        count-change ((layoutIn a) .N) (λ l. cond (laneLacks b l) 1 0) (λ l. cond (eqb (e .lane) l && lacksMapWord a e || laneLacks b l) 1 0)
+            1 (e .lane) (u e (List·Memᴰ·head refl)) (λ l _ n. rw (ne-eqb (e .lane) l (λ p. n (sym p)))),
+        before,
+        after (lacksMapWord a e),
+      ))
+    where
+      none : laneLacks b (e .lane) ≡ false
+      none = lane-none (lacksMapWord a) b (e .lane) (λ d m p. f .0 d m .0 (sym p))
+
+      before : hit 1 (cond (laneLacks b (e .lane)) 1 0) ≡ 0
+      before = unfold hit in (rw none)
+
+      after : (t : Bool) → length (cond t (lastOf e ∷ []) []) ≡ hit 1 (cond (eqb (e .lane) (e .lane) && t || laneLacks b (e .lane)) 1 0)
+      after true = unfold hit in (rw (eq-eqb (e .lane) (e .lane) refl))
+      after false = unfold hit in (rw (eq-eqb (e .lane) (e .lane) refl, none))
+
+  module _ (b : List Entry) (f : Differ b) (A : List ℕ) (lanes : List Lane) (i : Inv (layoutIn a) A lanes)
+      (at : (l : ℕ) → l < (layoutIn a) .N → LaneOf a b l (laneAt lanes l)) (lane-in : (e : Entry) → List·Memᴰ e b → e .lane < (layoutIn a) .N) where
+    ended-is : (l : ℕ) → l < (layoutIn a) .N → ended (layoutIn a) (laneAt lanes l) ≡ laneLacks b l
+    ended-is l u = go (laneAt lanes l) (i .lane l u .still) (at l u)
+      where
+        go : (r : Lane) → (r .busy ≡ false → r .made ≡ 0) → LaneOf a b l r → ended (layoutIn a) r ≡ laneLacks b l
+        go r still (untouched x n) =
+            ne-eqb (r .made) ((layoutIn a) .W + 4) (λ p. omega (arith, still (x .idle))) ∙ sym (lane-none (lacksMapWord a) b l n)
+        go r still (written e m p is) = ap (ended (layoutIn a)) is ∙ with-ended e ∙ sym (rw (← p) (lane-test (lacksMapWord a) b f e m))
+
+    -- opening's stores are their map words
+    pub mends-last : Same (mends (layoutIn a) A ((layoutIn a) .N)) (lastWords a b)
+    mends-last = rw (mends-are (layoutIn a) A lanes i ((layoutIn a) .N) (omega arith)) (record { to = to; from = from })
+      where
+        lane-is : (e : Entry) → List·Memᴰ e b → lacksMapWord a e ≡ true → laneAt lanes (e .lane) ≡ flyingLane a e
+        lane-is e m t = lane-at a b f e m (laneAt lanes (e .lane)) (at (e .lane) (lane-in e m)) ∙ lane-flying a e (lacks-flies e t)
+
+        to : (st : Store) → List·Memᴰ st (finals (layoutIn a) lanes ((layoutIn a) .N)) → List·Memᴰ st (lastWords a b)
+        to st m =
+            let r = finals-out (layoutIn a) lanes ((layoutIn a) .N) st m in
+            let w = any-some (λ e. eqb (e .lane) (r .0) && lacksMapWord a e) b (sym (ended-is (r .0) (r .1)) ∙ r .2) in
+            let p = and-elim (eqb (w .0 .lane) (r .0)) (lacksMapWord a (w .0)) (w .2) in
+            let q = eqb-true (w .0 .lane) (r .0) (p .0) in
+            Memᴰ·cast (r .3 ∙ ap finalStore (ap (laneAt lanes) (sym q) ∙ lane-is (w .0) (w .1) (p .1))) (last-in b (w .0) (w .1) (p .1))
+
+        from : (st : Store) → List·Memᴰ st (lastWords a b) → List·Memᴰ st (finals (layoutIn a) lanes ((layoutIn a) .N))
+        from st m =
+            let r = last-out b st m in
+            let is = lane-is (r .0) (r .1) (r .2) in
+            Memᴰ·cast (r .3 ∙ ap finalStore (sym is)) (finals-in (layoutIn a) lanes ((layoutIn a) .N) (r .0 .lane) (lane-in (r .0) (r .1))
+            (ended-is (r .0 .lane) (lane-in (r .0) (r .1)) ∙ lane-test (lacksMapWord a) b f (r .0) (r .1) ∙ r .2))
+
+    -- as many as the pending lanes
+    pub pending-last : pendingLanes (layoutIn a) A ((layoutIn a) .N) ≡ length (lastWords a b)
+    pending-last =
+        pending-count (layoutIn a) A ((layoutIn a) .N)
+        ∙ count-same ((layoutIn a) .N) (λ l. cond (laneLacks b l) 1 0) (λ l. cond (pending (layoutIn a) A l) 1 0) 1
+        (λ l u. ap (λ (t : Bool). cond t 1 0) (pending-is (layoutIn a) A lanes i l u ∙ ended-is l u))
+        ∙ sym (last-count b f lane-in)

@@ -1,0 +1,133 @@
+-- What a start and a step do to a book: a start adds an entry with no store, and a step adds one store to the lane's write.
+use mathlib.Core.Path.{_≡_, sym, ap, _∙_}
+use mathlib.Core.Logic.{_≢_, _⊎_, inl, inr, ⊎-elim}
+use mathlib.Core.List.{
+  List,
+  [],
+  _∷_,
+  map,
+  List·Memᴰ,
+  List·Memᴰ·head,
+  List·Memᴰ·tail,
+  List·Memᴰ·cases-cons,
+  List·Memᴰ·eq-of-singleton,
+  Memᴰ·map,
+  Memᴰ·of-map,
+}
+use Prim.Native.Nat.{ℕ, _+_, _≤_, _<_}
+use native.Mathlib.Omega.{arith}
+use native.Mathlib.Decide.{ℕ-discrete}
+use lib.ListN.{length}
+use borrow.Author.Tests.{eq-eqb, ne-eqb}
+use Rattle.machine.specs.declared.lane.Lane.{Lane}
+use Rattle.machine.specs.Lane.{writeStores}
+use Rattle.machine.specs.Stores.{Store, stored, putAll}
+use Rattle.machine.specs.Opening.{figuresIn, layoutIn}
+use Rattle.machine.specs.Valid.{Small}
+use Rattle.machine.specs.Writing.{laneStored}
+use Rattle.machine.specs.Book.{Entry, kept}
+use Rattle.machine.proofs.Stores.{putAll-one}
+use Rattle.machine.proofs.Entries.{same-entry, differ-retally, retally, oneMore}
+use Rattle.machine.proofs.FirstArena.{First}
+use Rattle.machine.proofs.BookStores.{storeOf, EntryOk, entry-like, BookOk, kept-more}
+use Rattle.machine.proofs.BookLanes.{laneWith, lane-stored, LaneOf, untouched, written}
+
+-- ---- a start
+
+-- a write that was started
+abbrev pub newEntry : ℕ → ℕ → Entry
+newEntry l s = record { lane = l; sector = s; tally = 0 }
+
+module _ (b : List Entry) (l s : ℕ) where
+  pub new-ok : (a : List ℕ) (bytes : ℕ → List ℕ) → BookOk a bytes b → l < (layoutIn a) .N → s < (layoutIn a) .E
+      → ((d : Entry) → List·Memᴰ d b → (d .lane ≢ l) × (d .sector ≢ s)) → BookOk a bytes (newEntry l s ∷ b)
+  new-ok a bytes o u v f = record {
+    each = λ d m. each d (List·Memᴰ·cases-cons m);
+    differ = (λ d m. (λ p. f d m .0 (sym p), λ p. f d m .1 (sym p)), o .differ);
+  }
+    where
+      new : EntryOk a bytes (newEntry l s)
+      new = record { lane-in = u; sector-in = v; tally-in = omega arith; small = λ q. absurd (omega arith); size = λ q. absurd (omega arith) }
+
+      each : (d : Entry) → (d ≡ newEntry l s) ⊎ List·Memᴰ d b → EntryOk a bytes d
+      each d (inl p) = rw p new
+      each d (inr m) = o .each d m
+
+  -- the other lanes
+  pub new-other : (a : List ℕ) (j : ℕ) → j ≢ l → (r : Lane) → LaneOf a b j r → LaneOf a (newEntry l s ∷ b) j r
+  new-other a j n r (untouched w f) =
+      untouched w (λ d m. ⊎-elim (λ p k. n (sym k ∙ ap (λ (c : Entry). c .lane) p)) (f d) (List·Memᴰ·cases-cons m))
+  new-other a j n r (written d m p w) = written d (List·Memᴰ·tail m) p w
+
+-- ---- a step
+
+-- one more for the write on the lane, and none for any other
+more-here : (l : ℕ) (e : Entry) → e .lane ≡ l → oneMore l e ≡ e .tally + 1
+more-here l e p = rw (eq-eqb (e .lane) l p)
+
+more-none : (l : ℕ) (e : Entry) → e .lane ≢ l → oneMore l e ≡ e .tally
+more-none l e n = rw (ne-eqb (e .lane) l n)
+
+-- the other lanes
+pub more-other : (a : List ℕ) (b : List Entry) (l j : ℕ) → j ≢ l → (r : Lane) → LaneOf a b j r → LaneOf a (map (retally (oneMore l)) b) j r
+more-other a b l j n r (untouched w f) = untouched w (λ d i. let v = Memᴰ·of-map (retally (oneMore l)) b i in rw (← v .2) (f (v .0) (v .1)))
+more-other a b l j n r (written d i w t) =
+    written (retally (oneMore l) d) (Memᴰ·map (retally (oneMore l)) i) w (t ∙ rw (more-none l d (λ k. n (sym w ∙ k))))
+
+-- the write e on lane l makes its next store
+module _ (a : List ℕ) (bytes : ℕ → List ℕ) (x : First a) (b : List Entry) (o : BookOk a bytes b) (l : ℕ) (e : Entry) (m : List·Memᴰ e b)
+    (p : e .lane ≡ l) (flies : e .tally < writeStores (layoutIn a)) (small : Small (bytes l)) (size : length (bytes l) ≡ (figuresIn a) .size) where
+  only : (d : Entry) → List·Memᴰ d b → d .lane ≡ l → d ≡ e
+  only d n k = same-entry b (o .differ) d e n m (k ∙ sym p)
+
+  more-entry : (d : Entry) → List·Memᴰ d b → Dec (d .lane ≡ l) → EntryOk a bytes (retally (oneMore l) d)
+  more-entry d n (yes k) =
+      let q = o .each d n in
+      let t = more-here l d k in
+      record {
+        lane-in = q .lane-in;
+        sector-in = q .sector-in;
+        tally-in = omega (arith, ap (λ (v : Entry). v .tally) (only d n k));
+        small = λ _. rw k small;
+        size = λ _. rw k size;
+      }
+  more-entry d n (no k) =
+      let q = o .each d n in
+      let t = more-none l d k in
+      entry-like a bytes (oneMore l) d q (omega (arith, q .tally-in)) (λ w. omega arith)
+
+  pub more-ok : BookOk a bytes (map (retally (oneMore l)) b)
+  more-ok = record {
+    each = λ d n. let w = Memᴰ·of-map (retally (oneMore l)) b n in rw (← w .2) (more-entry (w .0) (w .1) (ℕ-discrete (w .0 .lane) l));
+    differ = differ-retally (oneMore l) b (o .differ);
+  }
+
+  pub more-arena : putAll (layoutIn a) (kept a bytes (map (retally (oneMore l)) b)) a
+      ≡ stored (layoutIn a) (storeOf a bytes e (e .tally)) (putAll (layoutIn a) (kept a bytes b) a)
+  more-arena =
+      kept-more a bytes x (oneMore l) (st ∷ []) b more-ok (λ d n. grows d (ℕ-discrete (d .lane) l)) (λ d n. added d n (ℕ-discrete (d .lane) l))
+      (λ su n. record {
+        entry = retally (oneMore l) e;
+        member = Memᴰ·map (retally (oneMore l)) m;
+        number = e .tally;
+        early = omega (arith, more-here l e p);
+        is = List·Memᴰ·eq-of-singleton n;
+      })
+      ∙ putAll-one (layoutIn a) (kept a bytes b) st a
+    where
+      st : Store
+      st = storeOf a bytes e (e .tally)
+
+      grows : (d : Entry) → Dec (d .lane ≡ l) → d .tally ≤ oneMore l d
+      grows d (yes k) = omega (arith, more-here l d k)
+      grows d (no k) = omega (arith, more-none l d k)
+
+      added : (d : Entry) → List·Memᴰ d b → Dec (d .lane ≡ l) → (k : ℕ) → d .tally ≤ k → k < oneMore l d → List·Memᴰ (storeOf a bytes d k) (st ∷ [])
+      added d n (yes w) k i j =
+          let t : k ≡ d .tally = omega (arith, more-here l d w) in
+          List·Memᴰ·head (ap (storeOf a bytes d) t ∙ ap (λ (v : Entry). storeOf a bytes v (v .tally)) (only d n w))
+      added d n (no w) k i j = absurd (omega (arith, more-none l d w))
+
+  -- the lane itself
+  pub more-lane : LaneOf a (map (retally (oneMore l)) b) l (laneStored (layoutIn a) (laneWith a e))
+  more-lane = written (retally (oneMore l) e) (Memᴰ·map (retally (oneMore l)) m) p (lane-stored a e flies ∙ rw (more-here l e p))

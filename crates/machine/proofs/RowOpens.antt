@@ -1,0 +1,153 @@
+-- An opening answers and leaves what the row does: it stores the map words of the writes that lack only these, lane by lane, and each
+-- makes the new block of its lane, which is filled, the sector's. Data words are left alone.
+use mathlib.Core.Path.{_≡_, refl, sym, ap₂, _∙_}
+use mathlib.Core.Logic.{_≢_}
+use mathlib.Core.List.{List, [], _∷_, append-nil}
+use mathlib.Core.Bool.{Bool, true, false, cond}
+use Prim.Native.Nat.{ℕ, zero, suc, _+_, _≤_, _<_}
+use native.Mathlib.Omega.{arith}
+use native.Mathlib.Decide.{ℕ-discrete}
+use lib.ListN.{length, length-append}
+use borrow.Author.Tests.{eq-eqb, ne-eqb}
+use Rattle.words.specs.Word.{word}
+use Rattle.format.specs.MapWord.{mappedTo}
+use Rattle.format.proofs.Tests.{by-bool}
+use Rattle.layout.specs.Place.{Layout, layoutOf, inData, inMap, at}
+use Rattle.machine.specs.declared.lane.Lane.{Lane}
+use Rattle.machine.specs.declared.handle.Handle.{Handle}
+use Rattle.machine.specs.Handle.{laneAt}
+use Rattle.machine.specs.Stores.{stored, putAll}
+use Rattle.machine.specs.Flog.{mapWord}
+use Rattle.machine.specs.Row.{Sector, holds, Row, put, lacksLast, finished, settled, lacking}
+use Rattle.machine.proofs.Stores.{elsewhere, stored-word, putAll-one}
+use Rattle.machine.proofs.MapStores.{map-fits}
+use Rattle.machine.proofs.Inv.{Inv}
+use Rattle.machine.proofs.Finish.{finalStore}
+use Rattle.machine.proofs.Found.{ended, ended-true, finals, busy-after}
+use Rattle.machine.proofs.Ends.{finishLanes, finish-inv}
+use Rattle.machine.proofs.Contents.{contentOf, content-kept, content-mapped}
+use Rattle.machine.proofs.RowState.{Lent, Rep, held-whole}
+use Rattle.machine.proofs.RowSteps.{last-store}
+
+-- ---- the stores of an opening
+
+module _ (g : Layout) (lanes : List Lane) where
+  finals-more : (a : List ℕ) (n : ℕ) → ended g (laneAt lanes n) ≡ true
+      → putAll g (finals g lanes (suc n)) a ≡ stored g (finalStore (laneAt lanes n)) (putAll g (finals g lanes n) a)
+  unfolding finals
+  finals-more a n e = rw e (putAll-one g (finals g lanes n) (finalStore (laneAt lanes n)) a)
+
+  finals-same : (n : ℕ) → ended g (laneAt lanes n) ≡ false → finals g lanes (suc n) ≡ finals g lanes n
+  unfolding finals
+  finals-same n e = rw e (append-nil (finals g lanes n))
+
+  -- where none of the lanes below n lacks only its map word
+  pub finals-none : (n : ℕ) → ((l : ℕ) → l < n → ended g (laneAt lanes l) ≡ false) → finals g lanes n ≡ []
+  finals-none zero e = unfold finals in refl
+  finals-none (suc n) e = finals-same n (e n (omega arith)) ∙ finals-none n (λ l u. e l (omega arith))
+
+  -- a data word is in the map word of no lane
+  finals-data : (a : List ℕ) → Inv g a lanes → (b k : ℕ) → b < g .I → k < g .W → (n : ℕ) → n ≤ g .N
+      → word (putAll g (finals g lanes n) a) (at g (inData b k)) ≡ word a (at g (inData b k))
+  finals-data a i b k u v zero w = unfold finals putAll in refl
+  finals-data a i b k u v (suc n) w =
+      let ih = finals-data a i b k u v n (omega arith) in
+      by-bool (ended g (laneAt lanes n)) _
+      (λ t. rw (finals-more a n t)
+      (elsewhere g (i .ok) (putAll g (finals g lanes n) a) (inMap ((laneAt lanes n) .sector .0)) (inData b k) _ (i .lane n w .sector-in) (u, v)
+      (λ e. let z : _≡_ {A = ℕ} 0 1 = cc in omega arith) ∙ ih))
+      (λ t. rw (finals-same n t) ih)
+
+-- ---- against the row
+
+module _ (row : Row) (a : List ℕ) (h : Handle) (k : Rep row a h) where
+  abbrev g : Layout
+  g = layoutOf (h .figures)
+
+  i : Inv g a (h .lanes)
+  i = k .held .good .inv
+
+  -- an idle lane has made no store
+  pub not-ended : (l : ℕ) → l < g .N → (laneAt (h .lanes) l) .busy ≡ false → ended g (laneAt (h .lanes) l) ≡ false
+  not-ended l u e = ne-eqb ((laneAt (h .lanes) l) .made) (g .W + 4) (λ d. omega (arith, i .lane l u .still e))
+
+  -- the row's test and the record's
+  lacks-is : (l : ℕ) → l < g .N → lacksLast (h .figures) (row .lane l) ≡ ended g (laneAt (h .lanes) l)
+  lacks-is l u = rw (k .lane l u .is) (by-bool ((laneAt (h .lanes) l) .busy) _
+      (λ t. rw t (last-store (h .figures) ((laneAt (h .lanes) l) .made)))
+      (λ t. rw t (sym (not-ended l u t))))
+
+  finished-is : (sectors : ℕ → Sector) (l : ℕ) (u : l < g .N) → finished (h .figures) sectors (row .lane l)
+      ≡ cond (ended g (laneAt (h .lanes) l)) (put sectors ((laneAt (h .lanes) l) .sector .0) (holds (k .lane l u .bytes))) sectors
+  finished-is sectors l u = rw (k .lane l u .is) (by-bool ((laneAt (h .lanes) l) .busy) _
+      (λ t. rw (t, last-store (h .figures) ((laneAt (h .lanes) l) .made)))
+      (λ t. rw (t, not-ended l u t)))
+
+  -- how many writes are finished
+  pub lacking-is : (n : ℕ) → n ≤ g .N → lacking (h .figures) row n ≡ length (finals g (h .lanes) n)
+  unfolding lacking finals
+  lacking-is zero u = refl
+  lacking-is (suc n) u = rw (lacks-is n u, length-append (finals g (h .lanes) n))
+      (ap₂ (λ x y. x + y) (lacking-is n (omega arith)) (one (ended g (laneAt (h .lanes) n))))
+    where
+      one : (t : Bool) → cond t 1 0 ≡ length (cond t (finalStore (laneAt (h .lanes) n) ∷ []) [])
+      one true = refl
+      one false = refl
+
+  -- the arena with the writes of the lanes below n ended
+  abbrev endedIn : ℕ → List ℕ
+  endedIn n = putAll g (finals g (h .lanes) n) a
+
+  ended-inv : (n : ℕ) → n ≤ g .N → Inv g (endedIn n) (finishLanes g (h .lanes) n)
+  ended-inv = finish-inv g a (h .lanes) i
+
+  -- one lane more
+  module _ (n : ℕ) (u : n < g .N) (t : ended g (laneAt (h .lanes) n) ≡ true) where
+    abbrev r : Lane
+    r = laneAt (h .lanes) n
+
+    same-data : (b x : ℕ) → b < g .I → x < g .W → word (endedIn (suc n)) (at g (inData b x)) ≡ word a (at g (inData b x))
+    same-data b x v w = finals-data g (h .lanes) a i b x v w (suc n) u
+
+    map-word : (s : ℕ) → s ≡ r .sector .0 → mapWord g (endedIn (suc n)) s ≡ mappedTo (r .block .0)
+    map-word s e = rw (e, finals-more g (h .lanes) a n t)
+        (stored-word g (i .ok) (endedIn n) (finalStore r) (ended-inv n (omega arith) .arena)
+        (map-fits g (i .ok) a (i .arena) _ _ (i .lane n u .sector-in) (i .lane n u .block-in)))
+
+    map-other : (s : ℕ) → s < g .E → s ≢ r .sector .0 → mapWord g (endedIn (suc n)) s ≡ mapWord g (endedIn n) s
+    map-other s v d = rw (finals-more g (h .lanes) a n t)
+        (elsewhere g (i .ok) (endedIn n) (inMap (r .sector .0)) (inMap s) _ (i .lane n u .sector-in) v (λ e. d (cc)))
+
+    lent : Lent (h .figures) a r (k .lane n u .bytes)
+    lent = let e = ended-true g r t in k .lane n u .lent (busy-after g a n r (i .lane n u) e) (omega arith)
+
+    -- the lane's sector, and the others
+    landed : (s : ℕ) → s ≡ r .sector .0 → contentOf (h .figures) (endedIn (suc n)) s ≡ holds (k .lane n u .bytes)
+    landed s e = let m = ended-true g r t in
+        content-mapped (h .figures) (i .ok) (held-whole a h (k .held)) (endedIn (suc n)) (ended-inv (suc n) u .arena) s (r .block .0)
+        (i .lane n u .block-in) (map-word s e) (k .lane n u .bytes) (lent .small) (lent .size)
+        (λ x c d. same-data (r .block .0) x (i .lane n u .block-in) d ∙ lent .words x (omega arith) d)
+
+    left : (s : ℕ) → s < g .E → s ≢ r .sector .0 → contentOf (h .figures) (endedIn (suc n)) s ≡ contentOf (h .figures) (endedIn n) s
+    left s v d = let w = ended-inv n (omega arith) in
+        content-kept (h .figures) (i .ok) (held-whole a h (k .held)) (endedIn n) (endedIn (suc n)) (w .arena) (ended-inv (suc n) u .arena) s
+        (w .map-in s v) (map-other s v d)
+        (λ x c. same-data _ x (w .map-in s v) c ∙ sym (finals-data g (h .lanes) a i _ x (w .map-in s v) c n (omega arith)))
+
+  settle : (n : ℕ) → n < g .N → ((s : ℕ) → s < g .E → settled (h .figures) row n s ≡ contentOf (h .figures) (endedIn n) s)
+      → (s : ℕ) → s < g .E → settled (h .figures) row (suc n) s ≡ contentOf (h .figures) (endedIn (suc n)) s
+  unfolding settled
+  settle n u ih s v = rw (finished-is (settled (h .figures) row n) n u) (by-bool (ended g (laneAt (h .lanes) n)) _
+      (λ t. rw t (go t (ℕ-discrete s ((laneAt (h .lanes) n) .sector .0))))
+      (λ t. rw (t, finals-same g (h .lanes) n t) (ih s v)))
+    where
+      go : ended g (laneAt (h .lanes) n) ≡ true → Dec (s ≡ (laneAt (h .lanes) n) .sector .0)
+          → put (settled (h .figures) row n) ((laneAt (h .lanes) n) .sector .0) (holds (k .lane n u .bytes)) s
+          ≡ contentOf (h .figures) (endedIn (suc n)) s
+      go t (yes e) = rw (eq-eqb s ((laneAt (h .lanes) n) .sector .0) e) (sym (landed n u t s e))
+      go t (no d) = rw (ne-eqb s ((laneAt (h .lanes) n) .sector .0) d) (ih s v ∙ sym (left n u t s v d))
+
+  pub settled-is : (n : ℕ) → n ≤ g .N → (s : ℕ) → s < g .E
+      → settled (h .figures) row n s ≡ contentOf (h .figures) (putAll g (finals g (h .lanes) n) a) s
+  settled-is zero u s v = unfold settled finals putAll in (k .sector s v)
+  settled-is (suc n) u s v = settle n u (settled-is n (omega arith)) s v

@@ -1,0 +1,55 @@
+-- An arena and its latest handle against the row: each lane of the row is what the lane's record says, each sector what its map word
+-- says, and the new block of a write in flight has the words that were stored.
+use mathlib.Core.Path.{_≡_, _∙_}
+use mathlib.Core.List.{List}
+use mathlib.Core.Bool.{true, cond}
+use Prim.Native.Nat.{ℕ, _*_, _<_}
+use native.Mathlib.Omega.{arith}
+use lib.ListN.{length}
+use Rattle.layout.specs.Place.{layoutOf}
+use Rattle.layout.specs.declared.Figures.{Figures}
+use Rattle.layout.proofs.Allowed.{allowed-of, size-words}
+use Rattle.machine.specs.declared.lane.Lane.{Lane}
+use Rattle.machine.specs.declared.handle.Handle.{Handle}
+use Rattle.machine.specs.Handle.{laneAt}
+use Rattle.machine.specs.Valid.{Small}
+use Rattle.machine.specs.Row.{Flight, idle, flying, Row}
+use Rattle.machine.proofs.Good.{good-figures}
+use Rattle.machine.proofs.Calls.{Held}
+use Rattle.machine.proofs.Contents.{contentOf, Filled}
+
+-- a lane of the row by its record, and by the bytes of its write
+abbrev pub flightOf : Lane → List ℕ → Flight
+flightOf r bytes = cond (r .busy) (flying (r .sector .0) (r .made) bytes) idle
+
+-- the bytes of a write in flight that has made a store: a buffer, of which the stored words are in the new block
+pub record Lent (f : Figures) (a : List ℕ) (r : Lane) (bytes : List ℕ) : Type 0 where
+  pub small : Small bytes
+  pub size : length bytes ≡ f .size
+  pub words : Filled (layoutOf f) a (r .block .0) bytes (r .made)
+
+pub record LaneAs (f : Figures) (a : List ℕ) (r : Lane) (y : Flight) : Type 0 where
+  pub bytes : List ℕ
+  pub is : y ≡ flightOf r bytes
+  pub lent : r .busy ≡ true → 0 < r .made → Lent f a r bytes
+
+pub record Rep (row : Row) (a : List ℕ) (h : Handle) : Type 0 where
+  pub held : Held a h
+  pub lane : (l : ℕ) → l < (layoutOf (h .figures)) .N → LaneAs (h .figures) a (laneAt (h .lanes) l) (row .lane l)
+  pub sector : (s : ℕ) → s < (layoutOf (h .figures)) .E → row .sector s ≡ contentOf (h .figures) a s
+
+-- what is said of a row is said of its lanes and sectors one by one
+pub rep-same : (row row′ : Row) (a : List ℕ) (h : Handle) → ((l : ℕ) → l < (layoutOf (h .figures)) .N → row′ .lane l ≡ row .lane l)
+    → ((s : ℕ) → s < (layoutOf (h .figures)) .E → row′ .sector s ≡ row .sector s) → Rep row a h → Rep row′ a h
+rep-same row row′ a h el es k = record {
+  held = k .held;
+  lane = λ l u. let w = k .lane l u in record { bytes = w .bytes; is = el l u ∙ w .is; lent = w .lent };
+  sector = λ s u. es s u ∙ k .sector s u;
+}
+
+-- a sector is whole words
+pub held-whole : (a : List ℕ) (h : Handle) → Held a h → h .figures .size ≡ 4 * (layoutOf (h .figures)) .W
+unfolding layoutOf
+held-whole a h k =
+    let z = size-words (h .figures) (length a) (allowed-of (h .figures) (length a) (good-figures a (h .figures) (h .lanes) (k .good))) in
+    omega (arith, z .0)

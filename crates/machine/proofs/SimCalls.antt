@@ -1,0 +1,230 @@
+-- Every call keeps an arena and its handle with the book: a refused call changes neither, an accepted start adds an entry, an accepted
+-- step adds the next store of the lane's write, and an accepted whole write is its start and its steps.
+use mathlib.Core.Path.{_≡_, refl, sym, ap, _∙_}
+use mathlib.Core.Logic.{_≢_}
+use mathlib.Core.List.{List, _∷_, map, List·Memᴰ, List·Memᴰ·head}
+use mathlib.Core.Bool.{true, _&&_}
+use Prim.Native.Nat.{ℕ, zero, suc, _≤_, _<_}
+use native.Mathlib.Omega.{arith}
+use native.Mathlib.Numerals.{add-one}
+use native.Mathlib.Decide.{ℕ-discrete}
+use lib.Dec.{eqb, ltb}
+use lib.ListN.{length, set}
+use borrow.Author.Tests.{lt-ltb, ltb-true, lt-leb, eq-eqb, ne-eqb}
+use Rattle.format.proofs.Tests.{true-false, and-intro}
+use Rattle.layout.specs.Place.{layoutOf}
+use Rattle.machine.specs.declared.lane.Lane.{Lane}
+use Rattle.machine.specs.Lane.{startedLane, writeStores}
+use Rattle.machine.specs.Handle.{laneAt}
+use Rattle.machine.specs.Flog.{mapBlock}
+use Rattle.machine.specs.Opening.{figuresIn, layoutIn}
+use Rattle.machine.specs.Valid.{Small}
+use Rattle.machine.specs.Writing.{
+  planOf,
+  storeAt,
+  firstStores,
+  laneStored,
+  startNumber,
+  startOf,
+  stepNumber,
+  stepOf,
+  stepsOf,
+  writeNumber,
+  writeOf,
+}
+use Rattle.machine.specs.History.{Call, read, start, step, write, State, outcomeState, reply, after, SmallCall}
+use Rattle.machine.specs.Book.{Entry, inFlightYet, bookNumber, tallied, noted, bookNext, kept}
+use Rattle.machine.specs.DemandThree.{lends}
+use Rattle.machine.proofs.Inv.{lane-same, lane-other}
+use Rattle.machine.proofs.Calls.{start-found, step-found, write-found, lanes-in, sectors-in}
+use Rattle.machine.proofs.Running.{running-claim}
+use Rattle.machine.proofs.Histories.{held-after, alike-after}
+use Rattle.machine.proofs.Entries.{any-of, retally, oneMore, tallied-is, tallied-none}
+use Rattle.machine.proofs.FirstArena.{First, AsFound}
+use Rattle.machine.proofs.BookStores.{storeOf, kept-map}
+use Rattle.machine.proofs.BookLanes.{lane-flying, lane-busy, lane-started, LaneOf, untouched, written}
+use Rattle.machine.proofs.NextBook.{newEntry, new-ok, new-other, more-other, more-ok, more-arena, more-lane}
+use Rattle.machine.proofs.Sim.{Sim, start-number, step-number, write-number}
+
+-- a refused call changes nothing
+refused-after : (y : State) (c : Call) → (reply y c) .number ≢ 0 → after y c ≡ y
+refused-after y (read s buffer) n = refl
+refused-after y (start l s) n =
+    let r = running-claim .start-refused (y .arena) (y .handle) l s n in λ j. record { arena = r .arena j; handle = r .handle j }
+refused-after y (step l buffer) n =
+    let r = running-claim .step-refused (y .arena) (y .handle) l buffer n in λ j. record { arena = r .arena j; handle = r .handle j }
+refused-after y (write l s buffer) n =
+    let r = running-claim .write-refused (y .arena) (y .handle) l s buffer n in λ j. record { arena = r .arena j; handle = r .handle j }
+
+-- an accepted whole write is its start and its steps
+pub write-after : (y : State) (l s : ℕ) (buffer : List ℕ) (n : ℕ) → writeStores (layoutOf (y .handle .figures)) ≡ n
+    → writeNumber (y .arena) (y .handle) l s buffer ≡ 0
+    → after y (write l s buffer)
+    ≡ outcomeState (stepsOf n ((after y (start l s)) .arena) ((after y (start l s)) .handle) l buffer)
+unfolding writeOf
+write-after y l s buffer n p e = rw (e, p)
+
+-- what an accepted call begins shares neither a lane nor a sector with the book's writes
+abbrev pub Fresh : List Entry → Call → Type 0
+Fresh b (read s buffer) = Unit {0}
+Fresh b (start l s) = (d : Entry) → List·Memᴰ d b → (d .lane ≢ l) × (d .sector ≢ s)
+Fresh b (step l buffer) = Unit {0}
+Fresh b (write l s buffer) = (d : Entry) → List·Memᴰ d b → (d .lane ≢ l) × (d .sector ≢ s)
+
+-- ---- a start and a step
+
+module _ (a : List ℕ) (bytes : ℕ → List ℕ) (x : First a) (b : List Entry) (y : State) (z : Sim a bytes b y) where
+  in-lanes : (l : ℕ) → l < (layoutIn a) .N → l < length (y .handle .lanes)
+  in-lanes l u = let v : l < (layoutOf (y .handle .figures)) .N = rw (z .figures) u in omega (arith, z .held .good .inv .long)
+
+  -- the lanes with one replaced
+  with-lane : (c : List Entry) (l : ℕ) (r : Lane) → l < (layoutIn a) .N → LaneOf a c l r
+      → ((j : ℕ) → j ≢ l → (q : Lane) → LaneOf a b j q → LaneOf a c j q)
+      → (j : ℕ) → j < (layoutIn a) .N → LaneOf a c j (laneAt (set (y .handle .lanes) l r) j)
+  with-lane c l r u own others j v = go (ℕ-discrete j l)
+    where
+      go : Dec (j ≡ l) → LaneOf a c j (laneAt (set (y .handle .lanes) l r) j)
+      go (yes p) = rw (p, lane-same (y .handle .lanes) l r (in-lanes l u)) own
+      go (no n) = rw (lane-other (y .handle .lanes) l r j n) (others j n _ (z .lanes j v))
+
+  -- an accepted start
+  start-sim : (l s : ℕ) → startNumber (y .arena) (y .handle) l s ≡ 0 → Fresh b (start l s)
+      → Sim a bytes (newEntry l s ∷ b) (after y (start l s))
+  start-sim l s e f = record {
+    arena = unfold kept firstStores startOf in (z .arena);
+    figures = alike-after y (start l s) .figures ∙ z .figures;
+    lanes = λ j w. rw handed (with-lane (newEntry l s ∷ b) l r u own (new-other b l s a) j w);
+    ok = new-ok b l s a bytes (z .ok) u v f;
+    held = held-after y (start l s) tt (z .held);
+  }
+    where
+      u : l < (layoutIn a) .N
+      u = lanes-in (figuresIn a) l (rw (z .figures) at (start-found (y .arena) (y .handle) l s e .0))
+
+      v : s < (layoutIn a) .E
+      v = sectors-in (figuresIn a) s (rw (z .figures) at (start-found (y .arena) (y .handle) l s e .2))
+
+      r : Lane
+      r = startedLane (laneAt (y .handle .lanes) l) s (mapBlock (layoutOf (y .handle .figures)) (y .arena) s)
+
+      handed : (startOf (y .arena) (y .handle) l s) .handle .lanes ≡ set (y .handle .lanes) l r
+      handed = unfold startOf in (rw e)
+
+      found : LaneOf a b l (laneAt (y .handle .lanes) l) → AsFound a l (laneAt (y .handle .lanes) l)
+      found (untouched q _) = q
+      found (written d m p _) = absurd (f d m .0 p)
+
+      own : LaneOf a (newEntry l s ∷ b) l r
+      own = written (newEntry l s) (List·Memᴰ·head refl) refl
+          (rw (z .figures, z .arena, kept-map a bytes x b (z .ok) s v (λ d m p. absurd (f d m .1 p)))
+          (lane-started a l s (laneAt (y .handle .lanes) l) (found (z .lanes l u))))
+
+  -- an accepted step
+  step-sim : (l : ℕ) (buffer : List ℕ) → stepNumber (y .arena) (y .handle) l buffer ≡ 0 → Small buffer → buffer ≡ bytes l
+      → Sim a bytes (tallied a l b) (after y (step l buffer))
+  step-sim l buffer q small same = rw (tallied-is a l b) (go (z .lanes l u))
+    where
+      d : (l < y .handle .figures .lanes) × ((laneAt (y .handle .lanes) l) .busy ≡ true) × (length buffer ≡ y .handle .figures .size)
+      d = step-found (y .arena) (y .handle) l buffer q
+
+      u : l < (layoutIn a) .N
+      u = lanes-in (figuresIn a) l (rw (z .figures) at (d .0))
+
+      r : Lane
+      r = laneAt (y .handle .lanes) l
+
+      handed : (stepOf (y .arena) (y .handle) l buffer) .handle .lanes ≡ set (y .handle .lanes) l (laneStored (layoutIn a) r)
+      handed = unfold stepOf in (rw (q, z .figures))
+
+      go : LaneOf a b l (laneAt (y .handle .lanes) l) → Sim a bytes (map (retally (oneMore l)) b) (after y (step l buffer))
+      go (untouched w _) = true-false (sym (d .1) ∙ w .idle)
+      go (written e m p is) = record {
+        arena = unfold stepOf in (rw (q, z .figures, st-is, z .arena) (sym (more-arena a bytes x b (z .ok) l e m p flies sm size)));
+        figures = alike-after y (step l buffer) .figures ∙ z .figures;
+        lanes = λ j w. rw handed (with-lane (map (retally (oneMore l)) b) l (laneStored (layoutIn a) r) u
+            (rw is (more-lane a bytes x b (z .ok) l e m p flies sm size)) (more-other a b l) j w);
+        ok = more-ok a bytes x b (z .ok) l e m p flies sm size;
+        held = held-after y (step l buffer) small (z .held);
+      }
+        where
+          flies : e .tally < writeStores (layoutIn a)
+          flies = ltb-true _ _ (sym (ap (λ (k : Lane). k .busy) is ∙ lane-busy a e) ∙ d .1)
+
+          sm : Small (bytes l)
+          sm = rw (← same) small
+
+          size : length (bytes l) ≡ (figuresIn a) .size
+          size = rw (← same, ← z .figures) (d .2)
+
+          st-is : storeAt (layoutIn a) (planOf l r) buffer (r .made) ≡ storeOf a bytes e (e .tally)
+          st-is = rw (is ∙ lane-flying a e (lt-ltb _ _ flies), same, ← p)
+
+-- ---- a whole write
+
+module _ (a : List ℕ) (bytes : ℕ → List ℕ) (x : First a) (b : List Entry) (l s : ℕ) (buffer : List ℕ) where
+  -- its entry with n stores made
+  abbrev with : ℕ → List Entry
+  with n = record { lane = l; sector = s; tally = n } ∷ b
+
+  -- a step on its lane is accepted until all are made
+  steps-next : (n : ℕ) → n < writeStores (layoutIn a) → l < (figuresIn a) .lanes → length buffer ≡ (figuresIn a) .size
+      → bookNumber a (record { lane = l; sector = s; tally = n } ∷ b) (step l buffer) ≡ 0
+  unfolding bookNumber
+  steps-next n u v size = rw (
+    lt-leb ((figuresIn a) .lanes) l v,
+    any-of (λ e. eqb (e .lane) l && inFlightYet a e) (with n) (record { lane = l; sector = s; tally = n }) (List·Memᴰ·head refl)
+        (and-intro (eqb l l) (ltb n (writeStores (layoutIn a))) (eq-eqb l l refl) (lt-ltb n (writeStores (layoutIn a)) u)),
+    eq-eqb (length buffer) ((figuresIn a) .size) size,
+  )
+
+  -- the first n steps
+  steps-sim : (n : ℕ) (y : State) → n ≤ writeStores (layoutIn a) → l < (figuresIn a) .lanes → length buffer ≡ (figuresIn a) .size → Small buffer
+      → buffer ≡ bytes l → ((d : Entry) → List·Memᴰ d b → d .lane ≢ l) → Sim a bytes (newEntry l s ∷ b) y
+      → Sim a bytes (record { lane = l; sector = s; tally = n } ∷ b) (outcomeState (stepsOf n (y .arena) (y .handle) l buffer))
+  unfolding stepsOf
+  steps-sim zero y u v size small same f z = z
+  steps-sim (suc n) y u v size small same f z = go (steps-sim n y (omega arith) v size small same f z)
+    where
+      y′ : State
+      y′ = outcomeState (stepsOf n (y .arena) (y .handle) l buffer)
+
+      grown : tallied a l (record { lane = l; sector = s; tally = n } ∷ b) ≡ record { lane = l; sector = s; tally = suc n } ∷ b
+      grown = unfold tallied in (rw (eq-eqb l l refl, add-one n, tallied-none a l b f))
+
+      go : Sim a bytes (record { lane = l; sector = s; tally = n } ∷ b) y′
+          → Sim a bytes (record { lane = l; sector = s; tally = suc n } ∷ b) (after y′ (step l buffer))
+      go w = rw grown at
+          (step-sim a bytes x (with n) y′ w l buffer (step-number a bytes x (with n) y′ w l buffer ∙ steps-next n (omega arith) v size) small same)
+
+module _ (a : List ℕ) (bytes : ℕ → List ℕ) (x : First a) (b : List Entry) (y : State) (z : Sim a bytes b y) where
+  write-sim : (l s : ℕ) (buffer : List ℕ) → writeNumber (y .arena) (y .handle) l s buffer ≡ 0 → Small buffer → buffer ≡ bytes l
+      → Fresh b (write l s buffer) → Sim a bytes (record { lane = l; sector = s; tally = writeStores (layoutIn a) } ∷ b) (after y (write l s buffer))
+  write-sim l s buffer e small same f =
+      let w = write-found (y .arena) (y .handle) l s buffer e in
+      rw (write-after y l s buffer (writeStores (layoutIn a)) (rw (z .figures)) e)
+      (steps-sim a bytes x b l s buffer (writeStores (layoutIn a)) (after y (start l s)) (omega arith)
+      (rw (z .figures) at (start-found (y .arena) (y .handle) l s (w .0) .0)) (w .1 ∙ rw (z .figures)) small same (λ d m. f d m .0)
+      (start-sim a bytes x b y z l s (w .0) f))
+
+  -- ---- any call
+
+  accepted : (c : Call) → SmallCall c → bookNumber a b c ≡ 0 → Fresh b c → lends bytes c → Sim a bytes (noted a b c) (after y c)
+  unfolding noted
+  accepted (read s buffer) small e f same = z
+  accepted (start l s) small e f same = start-sim a bytes x b y z l s (start-number a bytes x b y z l s ∙ e) f
+  accepted (step l buffer) small e f same = step-sim a bytes x b y z l buffer (step-number a bytes x b y z l buffer ∙ e) small same
+  accepted (write l s buffer) small e f same = write-sim l s buffer (write-number a bytes x b y z l s buffer ∙ e) small same f
+
+  refused-book : (c : Call) → bookNumber a b c ≢ 0 → after y c ≡ y
+  refused-book (read s buffer) n = refl
+  refused-book (start l s) n = refused-after y (start l s) (unfold startOf in (rw (start-number a bytes x b y z l s) n))
+  refused-book (step l buffer) n = refused-after y (step l buffer) (unfold stepOf in (rw (step-number a bytes x b y z l buffer) n))
+  refused-book (write l s buffer) n = refused-after y (write l s buffer) (unfold writeOf in (rw (write-number a bytes x b y z l s buffer) n))
+
+  -- if what it begins is new to the book and it lends its write's bytes
+  pub sim-next : (c : Call) → SmallCall c → (bookNumber a b c ≡ 0 → Fresh b c × lends bytes c) → Sim a bytes (bookNext a b c) (after y c)
+  sim-next c small f = go (ℕ-discrete (bookNumber a b c) 0)
+    where
+      go : Dec (bookNumber a b c ≡ 0) → Sim a bytes (bookNext a b c) (after y c)
+      go (yes e) = rw e (accepted c small e (f e .0) (f e .1))
+      go (no n) = rw (ne-eqb (bookNumber a b c) 0 n, refused-book c n) z

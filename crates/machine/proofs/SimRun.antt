@@ -1,0 +1,143 @@
+-- A list of calls followed in the book: it begins with the empty book, every call answers as the book does and leaves what the book says.
+use mathlib.Core.Path.{_≡_, refl, sym, ap, ap₂, _∙_, subst}
+use mathlib.Core.Logic.{_⊎_, inl, inr, ⊎-elim}
+use mathlib.Core.List.{
+  List,
+  [],
+  _∷_,
+  _++_,
+  List·Memᴰ,
+  List·Memᴰ·head,
+  List·Memᴰ·tail,
+  List·Memᴰ·cases-cons,
+  List·Memᴰ·not-nil,
+  Memᴰ·append-left,
+  Memᴰ·append-right,
+  Memᴰ·of-map,
+}
+use mathlib.Core.Bool.{Bool, cond}
+use Prim.Native.Nat.{ℕ, zero, suc}
+use native.Mathlib.Omega.{arith}
+use lib.Dec.{eqb}
+use borrow.Author.Tests.{ne-eqb}
+use Rattle.machine.specs.declared.handle.Handle.{Handle}
+use Rattle.machine.specs.Lane.{writeStores}
+use Rattle.machine.specs.Stores.{putAll}
+use Rattle.machine.specs.Opening.{layoutIn}
+use Rattle.machine.specs.History.{Call, read, start, step, write, State, Reply, reply, after, run, replies, SmallCalls}
+use Rattle.machine.specs.Book.{Entry, bookNumber, noted, bookNext, bookAfter, bookReply, bookReplies, kept}
+use Rattle.machine.specs.DemandThree.{Differ, begins, begun, lends, Lends}
+use Rattle.machine.specs.DemandTwo.{AllIdle}
+use Rattle.machine.proofs.Calls.{Held}
+use Rattle.machine.proofs.Entries.{Far, far-like, differ-right, differ-across, retally, oneMore, tallied-is}
+use Rattle.machine.proofs.FirstArena.{First, first-found}
+use Rattle.machine.proofs.BookLanes.{untouched}
+use Rattle.machine.proofs.NextBook.{newEntry}
+use Rattle.machine.proofs.Sim.{Sim, reply-is}
+use Rattle.machine.proofs.SimCalls.{Fresh, sim-next}
+
+-- the empty book, all lanes idle
+pub sim-start : (a : List ℕ) (h : Handle) (bytes : ℕ → List ℕ) → Held a h → AllIdle h → Sim a bytes [] (record { arena = a; handle = h })
+unfolding kept putAll
+sim-start a h bytes k idle = record {
+  arena = refl;
+  figures = sym (k .good .figures);
+  lanes = λ l u. untouched (first-found a h k idle l u) (λ e m. absurd (List·Memᴰ·not-nil m));
+  ok = record { each = λ e m. absurd (List·Memᴰ·not-nil m); differ = tt };
+  held = k;
+}
+
+-- no write of the one list shares a lane or a sector with one of the other
+abbrev pub Apart : List Entry → List Entry → Type 0
+Apart b w = (d e : Entry) → List·Memᴰ d b → List·Memᴰ e w → Far d e
+
+-- an entry with the lane and the sector of one of a list
+pub record Like (w : List Entry) (e : Entry) : Type 0 where
+  pub entry : Entry
+  pub member : List·Memᴰ entry w
+  pub lane : e .lane ≡ entry .lane
+  pub sector : e .sector ≡ entry .sector
+
+like-here : (w : List Entry) (e : Entry) → List·Memᴰ e w → Like w e
+like-here w e m = record { entry = e; member = m; lane = refl; sector = refl }
+
+far-from : (b w : List Entry) → Apart b w → (d e : Entry) → Like b d → List·Memᴰ e w → Far d e
+far-from b w f d e k m = far-like (k .entry) e d e (sym (k .lane)) (sym (k .sector)) refl refl (f (k .entry) e (k .member) m)
+
+module _ (a : List ℕ) (bytes : ℕ → List ℕ) (x : First a) (b : List Entry) (y : State) (z : Sim a bytes b y) where
+  -- the number that a call gives, but for reads
+  number-is : (c : Call) → begins ((reply y c) .number) c ≡ begins (bookNumber a b c) c
+  unfolding bookReply
+  number-is (read s buffer) = none ((reply y (read s buffer)) .number) ∙ sym (none (bookNumber a b (read s buffer)))
+    where
+      none : (n : ℕ) → begins n (read s buffer) ≡ []
+      none zero = refl
+      none (suc n) = refl
+  number-is (start l s) = ap (λ (r : Reply). begins (r .number) (start l s)) (reply-is a bytes x b y z (start l s))
+  number-is (step l buffer) = ap (λ (r : Reply). begins (r .number) (step l buffer)) (reply-is a bytes x b y z (step l buffer))
+  number-is (write l s buffer) = ap (λ (r : Reply). begins (r .number) (write l s buffer)) (reply-is a bytes x b y z (write l s buffer))
+
+  -- the book after a call has the writes of before and the one that the call begins
+  next-like : (c : Call) (e : Entry) → List·Memᴰ e (bookNext a b c) → Like b e ⊎ Like (begins ((reply y c) .number) c) e
+  unfolding noted
+  next-like c e m = rw (number-is c) (go c (bookNumber a b c) m)
+    where
+      more : (l s t : ℕ) → List·Memᴰ e (record { lane = l; sector = s; tally = t } ∷ b) → Like b e ⊎ Like (newEntry l s ∷ []) e
+      more l s t k = ⊎-elim
+          (λ p. inr (record {
+            entry = newEntry l s;
+            member = List·Memᴰ·head refl;
+            lane = ap (λ (d : Entry). d .lane) p;
+            sector = ap (λ (d : Entry). d .sector) p;
+          }))
+          (λ n. inl (like-here b e n)) (List·Memᴰ·cases-cons k)
+
+      one : (c : Call) → List·Memᴰ e (noted a b c) → Like b e ⊎ Like (begins 0 c) e
+      one (read s buffer) k = inl (like-here b e k)
+      one (start l s) k = more l s 0 k
+      one (step l buffer) k =
+          let r = Memᴰ·of-map (retally (oneMore l)) b (subst (List·Memᴰ e) (tallied-is a l b) k) in
+          inl (record {
+            entry = r .0;
+            member = r .1;
+            lane = ap (λ (d : Entry). d .lane) (sym (r .2));
+            sector = ap (λ (d : Entry). d .sector) (sym (r .2));
+          })
+      one (write l s buffer) k = more l s (writeStores (layoutIn a)) k
+
+      go : (c : Call) (n : ℕ) → List·Memᴰ e (cond (eqb n 0) (noted a b c) b) → Like b e ⊎ Like (begins n c) e
+      go c zero k = one c k
+      go c (suc n) k = inl (like-here b e (subst (λ (t : Bool). List·Memᴰ e (cond t (noted a b c) b)) (ne-eqb (suc n) 0 (λ w. omega arith)) k))
+
+  -- an accepted call, by its answer
+  fresh-of : (c : Call) → Apart b (begins ((reply y c) .number) c) → bookNumber a b c ≡ 0 → Fresh b c
+  fresh-of c f e = go c (rw (number-is c, e) at f)
+    where
+      go : (c : Call) → Apart b (begins 0 c) → Fresh b c
+      go (read s buffer) g = tt
+      go (start l s) g = λ d m. g d (newEntry l s) m (List·Memᴰ·head refl)
+      go (step l buffer) g = tt
+      go (write l s buffer) g = λ d m. g d (newEntry l s) m (List·Memᴰ·head refl)
+
+  lends-of : (c : Call) → ((reply y c) .number ≡ 0 → lends bytes c) → bookNumber a b c ≡ 0 → lends bytes c
+  unfolding bookReply
+  lends-of (read s buffer) f e = tt
+  lends-of (start l s) f e = tt
+  lends-of (step l buffer) f e = f (ap (λ (r : Reply). r .number) (reply-is a bytes x b y z (step l buffer)) ∙ e)
+  lends-of (write l s buffer) f e = f (ap (λ (r : Reply). r .number) (reply-is a bytes x b y z (write l s buffer)) ∙ e)
+
+-- any list of calls
+pub sim-run : (a : List ℕ) (bytes : ℕ → List ℕ) → First a → (cs : List Call) (b : List Entry) (y : State) → Sim a bytes b y → SmallCalls cs
+    → Lends bytes y cs → Differ (begun y cs) → Apart b (begun y cs)
+    → (replies y cs ≡ bookReplies a bytes b cs) × Sim a bytes (bookAfter a b cs) (run y cs)
+unfolding replies bookReplies bookAfter run begun
+sim-run a bytes x [] b y z small le di ap = (refl, z)
+sim-run a bytes x (c ∷ cs) b y z small le di far =
+    let w = begins ((reply y c) .number) c in
+    let rest = begun (after y c) cs in
+    let z′ = sim-next a bytes x b y z c (small c (List·Memᴰ·head refl))
+    (λ e. (fresh-of a bytes x b y z c (λ d f m n. far d f m (Memᴰ·append-left rest n)) e, lends-of a bytes x b y z c (le .0) e)) in
+    let r = sim-run a bytes x cs (bookNext a b c) (after y c) z′ (λ d m. small d (List·Memᴰ·tail m)) (le .1) (differ-right w rest di)
+    (λ d e m n. ⊎-elim (λ k. far-from b (w ++ rest) far d e k (Memᴰ·append-right w n))
+    (λ k. far-from w rest (differ-across w rest di) d e k n) (next-like a bytes x b y z c d m)) in
+    (ap₂ {C = List Reply} (λ p q. p ∷ q) (reply-is a bytes x b y z c) (r .0), r .1)

@@ -1,0 +1,215 @@
+-- What an accepted read, start and step do, in bytes, of any handle. Rule 16 passed, so the figures are allowed and the lane's record is in range;
+-- a record that is missing from the list has sequence 0 and is not, so the lane's record is one of the list.
+use mathlib.Core.Path.{_≡_, refl, sym, ap, _∙_}
+use mathlib.Core.Logic.{⊎-elim}
+use mathlib.Core.Bool.{Bool, true, false, cond, not}
+use mathlib.Core.List.{List}
+use Prim.Native.Nat.{ℕ, zero, suc, _+_, _-_, _*_, _/_, _≤_, _<_}
+use native.Mathlib.Omega.{arith}
+use native.Mathlib.Decide.{decLt}
+use lib.Dec.{ltb}
+use lib.ListN.{length, take, drop, List·getD-eq-default}
+use lib.Seq.{getD-set-same, getD-set-other}
+use borrow.Author.Tests.{eq-eqb, ne-eqb, not-false}
+use Rattle.words.specs.Word.{word, putWord}
+use Rattle.words.proofs.Laws.{length-putWord, getD-putWord-other, word-putWord-same}
+use Rattle.format.specs.MapWord.{flagsOf, blockOf}
+use Rattle.layout.specs.Figures.{Allowed}
+use Rattle.layout.specs.Place.{LayoutOk, layoutOf, at, inData}
+use Rattle.layout.specs.declared.Figures.{Figures}
+use Rattle.layout.proofs.Allowed.{layout-ok, layout-exact}
+use Rattle.machine.specs.declared.lane.Lane.{Lane}
+use Rattle.machine.specs.declared.handle.Handle.{Handle}
+use Rattle.machine.specs.Lane.{noLane, startedLane, laneAfter, finishedLane}
+use Rattle.machine.specs.Handle.{laneAt, handleAllowed}
+use Rattle.machine.specs.Flog.{mapWord, mapBlock}
+use Rattle.machine.specs.Valid.{Small}
+use Rattle.machine.specs.Running.{HandleOk}
+use Rattle.machine.specs.Reading.{readNumber, readOf, blockBytes}
+use Rattle.machine.specs.Writing.{planOf, logStore, storeAt, laneStored, withLane, startNumber, startOf, stepNumber, stepOf}
+use Rattle.machine.specs.Claims.{byteWord, mapByte}
+use Rattle.machine.specs.Table.{
+  lastByte,
+  lastWord,
+  storeByte,
+  storeWord,
+  OneWord,
+  OneRecord,
+  StepTable,
+  BlockIs,
+  StartTable,
+  ReadTable,
+}
+use Rattle.machine.proofs.Rows.{passed}
+use Rattle.machine.proofs.Stores.{Arena, in-arena}
+use Rattle.machine.proofs.StoreKinds.{PlanOk, store-fits}
+use Rattle.machine.proofs.Running.{handle-ok}
+use Rattle.machine.proofs.Calls.{start-found, step-found}
+use Rattle.machine.proofs.Offsets.{word-at, data-start, flog-start, map-start, map-word}
+
+-- ---- what rule 16 gives
+
+module _ (h : Handle) (a : List ℕ) (k : HandleOk h (length a)) where
+  layout : LayoutOk (layoutOf (h .figures))
+  layout = layout-ok (h .figures) (length a) (k .figures) (k .size .most)
+
+  arena : Small a → Arena (layoutOf (h .figures)) a
+  arena small =
+      let e = layout-exact (h .figures) (length a) (k .figures) in
+      record { bytes = record { words = omega (arith, k .size .multiple); small = small }; long = omega (arith, e) }
+
+  -- the lane's record is one of the list
+  listed : (l : ℕ) → l < h .figures .lanes → l < length (h .lanes)
+  listed l u = go (decLt l (length (h .lanes)))
+    where
+      go : Dec (l < length (h .lanes)) → l < length (h .lanes)
+      go (yes v) = v
+      go (no v) =
+          let e : laneAt (h .lanes) l ≡ noLane = List·getD-eq-default (h .lanes) noLane (omega arith) in
+          absurd (omega (arith, k .lanes l u .sequence-least, ap (λ (r : Lane). r .sequence .0) e))
+
+  plan : (l : ℕ) → l < h .figures .lanes → PlanOk (layoutOf (h .figures)) (planOf l (laneAt (h .lanes) l))
+  unfolding layoutOf
+  plan l u = let r = k .lanes l u in record {
+    lane-in = u;
+    sector-in = r .sector;
+    old-in = r .old;
+    new-in = r .block;
+    half-in = ⊎-elim (λ e. omega arith) (λ e. omega arith) (r .half);
+    sequence-in = omega (arith, r .sequence-most);
+  }
+
+-- ---- one store, and one record
+
+one-word : (a : List ℕ) (i v o : ℕ) → 4 * i ≡ o → o + 4 ≤ length a → v < 4294967296 → OneWord a (putWord a i v) o v
+one-word a i v o e u b = record {
+  size = length-putWord a i v;
+  inside = u;
+  word = sym (word-at (putWord a i v) i o e) ∙ word-putWord-same a i v (omega arith) b;
+  kept = λ j c. getD-putWord-other a i v j (⊎-elim (λ p q. omega arith) (λ p q. omega arith) c);
+}
+
+one-record : (h : Handle) (l : ℕ) (r : Lane) → l < length (h .lanes) → OneRecord h (withLane h l r) l r
+one-record h l r u = record {
+  size = refl;
+  figures = refl;
+  changed = getD-set-same (h .lanes) l r noLane u;
+  kept = λ j n. getD-set-other (h .lanes) l j r noLane n;
+}
+
+-- the block of a map word
+block-is : (s w : ℕ) → BlockIs w s (blockOf s w)
+unfolding blockOf
+block-is s w = record { own = λ e. rw (eq-eqb (flagsOf w) 0 e); low = λ e. rw (ne-eqb (flagsOf w) 0 e) }
+
+-- ---- a step
+
+module _ (f : Figures) (l : ℕ) (r : Lane) (buffer : List ℕ) (k : ℕ) where
+  store-byte : (n : ℕ) → Allowed f n → 4 * at (layoutOf f) ((storeAt (layoutOf f) (planOf l r) buffer k) .place) ≡ storeByte f l r k
+  unfolding storeAt storeByte
+  store-byte n ok = unfold layoutOf in (go (ltb k (f .size / 4)) (k - f .size / 4))
+    where
+      last : (j : ℕ) → 4 * at (layoutOf f) ((logStore (planOf l r) j) .place) ≡ lastByte f l r j
+      last zero = omega (arith, flog-start f n ok l (r .half) 0)
+      last (suc zero) = flog-start f n ok l (r .half) 1
+      last (suc (suc zero)) = flog-start f n ok l (r .half) 2
+      last (suc (suc (suc zero))) = flog-start f n ok l (r .half) 3
+      last (suc (suc (suc (suc j)))) = map-start f n ok (r .sector .0)
+
+      go : (t : Bool) (j : ℕ)
+          → 4 * at (layoutOf f) ((cond t (record { place = inData (r .block .0) k; value = word buffer k }) (logStore (planOf l r) j)) .place)
+          ≡ cond t (f .dataoff + r .block .0 * f .size + 4 * k) (lastByte f l r j)
+      go true j = data-start f n ok (r .block .0) k
+      go false j = last j
+
+  store-word : (storeAt (layoutOf f) (planOf l r) buffer k) .value ≡ storeWord f r buffer k
+  unfolding storeAt storeWord
+  store-word = unfold layoutOf in (go (ltb k (f .size / 4)) (k - f .size / 4))
+    where
+      last : (j : ℕ) → (logStore (planOf l r) j) .value ≡ lastWord r j
+      last zero = refl
+      last (suc zero) = refl
+      last (suc (suc zero)) = refl
+      last (suc (suc (suc zero))) = refl
+      last (suc (suc (suc (suc j)))) = refl
+
+      go : (t : Bool) (j : ℕ)
+          → (cond t (record { place = inData (r .block .0) k; value = word buffer k }) (logStore (planOf l r) j)) .value
+          ≡ cond t (byteWord buffer (4 * k)) (lastWord r j)
+      go true j = word-at buffer k (4 * k) refl
+      go false j = last j
+
+-- the record after a store
+module _ (f : Figures) (r : Lane) where
+  after-more : r .made + 1 < f .size / 4 + 5 → laneStored (layoutOf f) r ≡ laneAfter r (r .made + 1)
+  unfolding laneStored layoutOf
+  after-more u = rw (ne-eqb (r .made + 1) (f .size / 4 + 5) (omega arith))
+
+  after-last : r .made + 1 ≡ f .size / 4 + 5 → laneStored (layoutOf f) r ≡ finishedLane r
+  unfolding laneStored layoutOf
+  after-last e = rw (eq-eqb (r .made + 1) (f .size / 4 + 5) e)
+
+module _ (a : List ℕ) (h : Handle) where
+  -- the first rule of every row passed
+  passed-16 : (v : ℕ) → cond (not (handleAllowed h (length a))) 16 v ≡ 0 → HandleOk h (length a)
+  passed-16 v e = handle-ok h (length a) (not-false _ (passed (not (handleAllowed h (length a))) 15 v e .0))
+
+  pub step-table : (l : ℕ) (buffer : List ℕ) → Small a → Small buffer → (stepOf a h l buffer) .number ≡ 0
+      → StepTable a h l buffer (laneAt (h .lanes) l) (stepOf a h l buffer)
+  unfolding stepOf
+  step-table l buffer small bytes e =
+      let k : HandleOk h (length a) = unfold stepNumber in (passed-16 _ e) in
+      let f = h .figures in
+      let g = layoutOf f in
+      let r = laneAt (h .lanes) l in
+      let u = step-found a h l buffer e .0 in
+      let st = storeAt g (planOf l r) buffer (r .made) in
+      let fits = store-fits g (layout h a k) (planOf l r) (plan h a k l u) buffer bytes (r .made) (k .lanes l u .made) in
+      let o = store-byte f l r buffer (r .made) (length a) (k .figures) in
+      let i = in-arena g (layout h a k) a (arena h a k small) (st .place) (fits .range) in
+      record {
+        store = rw (e, ← store-word f l r buffer (r .made)) (one-word a (at g (st .place)) (st .value) _ o (rw o at i) (fits .small));
+        more = λ v. rw (e, ← after-more f r v) (one-record h l (laneStored g r) (listed h a k l u));
+        last = λ v. rw (e, ← after-last f r v) (one-record h l (laneStored g r) (listed h a k l u));
+      }
+
+  -- ---- a start
+
+  pub start-table : (l s : ℕ) → Small a → (startOf a h l s) .number ≡ 0 → StartTable a h l s (laneAt (h .lanes) l) (startOf a h l s)
+  unfolding startOf
+  start-table l s small e =
+      let k : HandleOk h (length a) = unfold startNumber in (passed-16 _ e) in
+      let u = start-found a h l s e .0 in
+      let b = mapBlock (layoutOf (h .figures)) a s in
+      record {
+        arena = refl;
+        old = b;
+        old-is = rw (← map-word (h .figures) (length a) (k .figures) a s) (block-is s (mapWord (layoutOf (h .figures)) a s));
+        handle = rw e (one-record h l (startedLane (laneAt (h .lanes) l) s b) (listed h a k l u));
+      }
+
+  -- ---- a read
+
+  -- where a block's bytes start
+  block-bytes : (b : ℕ) → HandleOk h (length a) → blockBytes a h b ≡ take (h .figures .size) (drop (h .figures .dataoff + b * h .figures .size) a)
+  unfolding blockBytes
+  block-bytes b k =
+      let e : 4 * at (layoutOf (h .figures)) (inData b 0) ≡ h .figures .dataoff + b * h .figures .size =
+      omega (arith, data-start (h .figures) (length a) (k .figures) b 0) in
+      ap (λ (o : ℕ). take (h .figures .size) (drop o a)) e
+
+  pub read-table : (s : ℕ) (buffer : List ℕ) → Small a → (readOf a h s buffer) .number ≡ 0 → ReadTable a h s (readOf a h s buffer)
+  unfolding readOf
+  read-table s buffer small e =
+      let k : HandleOk h (length a) = unfold readNumber in (passed-16 _ e) in
+      let w = mapWord (layoutOf (h .figures)) a s in
+      let m : w ≡ byteWord a (mapByte (h .figures) s) = map-word (h .figures) (length a) (k .figures) a s in
+      record {
+        zeroes = λ u. let v : flagsOf w < 2 = rw m u in rw (e, ne-eqb (flagsOf w) 3 (omega arith), ne-eqb (flagsOf w) 2 (omega arith));
+        bytes = λ u.
+            let v : flagsOf w ≡ 3 = rw m u in
+            rw (e, eq-eqb (flagsOf w) 3 v, ← m) (block-bytes (blockOf s w) k ∙ ap from (block-is s w .low (omega arith)));
+      }
+    where
+      from : ℕ → List ℕ
+      from b = take (h .figures .size) (drop (h .figures .dataoff + b * h .figures .size) a)

@@ -1,0 +1,199 @@
+"""The model of the running calls: read, start, step and whole write, from the rules' own words.
+
+It shares no code with the library. Each call gives the answer's number and changes arena, handle or buffer in place.
+"""
+import struct
+from dataclasses import dataclass, replace
+from typing import NamedTuple
+
+import model
+
+DATA_WORD = 0xC0000000
+
+ORDER = {
+    "read": (16, 9, 10, 7, 15),
+    "start": (16, 11, 12, 9, 13, 7),
+    "write": (16, 11, 12, 9, 10, 13, 7),
+    "step": (16, 11, 14, 10),
+}
+
+
+class Record(NamedTuple):
+    """A lane's record; block is an idle lane's free block, and the new block of a write in flight."""
+
+    busy: int = 0
+    block: int = 0
+    half: int = 0
+    sequence: int = 0
+    sector: int = 0
+    old: int = 0
+    made: int = 0
+
+
+@dataclass
+class Handle:
+    """What opening gives: the slice's length, the figures, and a record for each of 16 lanes."""
+
+    length: int
+    figures: model.Figures
+    records: list
+    reserved: int = 0
+
+    def copy(self):
+        return Handle(self.length, replace(self.figures), list(self.records), self.reserved)
+
+
+def no_handle():
+    """The handle of a refused opening: all zeroes."""
+    return Handle(0, model.Figures(0, 0, 0, 0, 0, 0, 0, 0, 0), [Record()] * model.MAX_LANES)
+
+
+def handle_of(opened, length):
+    """The handle that this opening of a slice of that length gives."""
+    if opened.number:
+        return no_handle()
+    records = [Record(0, lane.free, lane.half, lane.sequence) for lane in opened.lanes]
+    return Handle(length, replace(opened.figures), records + [Record()] * (model.MAX_LANES - len(records)))
+
+
+def refusal(call, arena, handle, lane=0, sector=0, length=0):
+    """The first number of the call's order that applies, or 0; length is the sector buffer's."""
+    for number in ORDER[call]:
+        if applies(number, arena, handle, lane, sector, length):
+            return number
+    return 0
+
+
+def applies(number, arena, handle, lane, sector, length):
+    """Whether this row of the table applies."""
+    f = handle.figures
+    if number == 16:
+        return bad_handle(handle, len(arena))
+    if number == 9:
+        return sector >= f.sectors
+    if number == 10:
+        return length != f.size
+    if number == 11:
+        return lane >= f.lanes
+    if number == 12:
+        return handle.records[lane].busy
+    if number == 13:
+        return any(record.busy and record.sector == sector for record in others(handle, lane))
+    if number == 14:
+        return not handle.records[lane].busy
+    word = map_word(arena, f, sector)
+    if number == 7:
+        return word >> 30 != 0 and word & 0x3FFFFFFF >= f.blocks
+    return word >> 30 == 2
+
+
+def others(handle, lane):
+    """The records of all the lanes but this one."""
+    return [record for other, record in enumerate(handle.records[: handle.figures.lanes]) if other != lane]
+
+
+def bad_handle(handle, length):
+    """Whether a figure of the handle or the record of any lane is out of range."""
+    f = handle.figures
+    if handle.length != length or not model.length_allowed(length) or not model.figures_allowed(f, length):
+        return True
+    for record in handle.records[: f.lanes]:
+        if bad_record(f, record):
+            return True
+    return False
+
+
+def bad_record(f, record):
+    busy, block, half, sequence, sector, old, made = record
+    return (
+        block >= f.blocks
+        or old >= f.blocks
+        or half > 1
+        or not 1 <= sequence <= 3
+        or sector >= f.sectors
+        or made >= f.size // 4 + 5
+        or busy > 1
+    )
+
+
+def map_word(arena, f, sector):
+    return struct.unpack_from("<I", arena, f.map + 4 * sector)[0]
+
+
+def put(arena, offset, value):
+    """Makes one 4-byte store."""
+    struct.pack_into("<I", arena, offset, value)
+
+
+def read(arena, handle, sector, buffer):
+    """Fills the buffer with the block's bytes or with zeroes."""
+    number = refusal("read", arena, handle, 0, sector, len(buffer))
+    if number == 0:
+        f = handle.figures
+        word = map_word(arena, f, sector)
+        place = f.data + f.size * model.block_of(sector, word)
+        buffer[:] = arena[place : place + f.size] if word >> 30 == 3 else bytes(f.size)
+    return number
+
+
+def started(arena, f, record, sector):
+    """The record of an idle lane once a write to that sector has started on it."""
+    old = model.block_of(sector, map_word(arena, f, sector))
+    return Record(1, record.block, record.half, record.sequence, sector, old, 0)
+
+
+def start(arena, handle, lane, sector):
+    """Changes the lane's record and stores nothing."""
+    number = refusal("start", arena, handle, lane, sector)
+    if number == 0:
+        handle.records[lane] = started(arena, handle.figures, handle.records[lane], sector)
+    return number
+
+
+def store(f, lane, record, buffer):
+    """The (offset, value) of the one store that the next step of a write in flight makes."""
+    k, words = record.made, f.size // 4
+    if k < words:
+        return f.data + f.size * record.block + 4 * k, int.from_bytes(buffer[4 * k : 4 * k + 4], "little")
+    if k < words + 4:
+        part = k - words
+        return f.flog + 64 * lane + 16 * record.half + 4 * part, (record.sector, record.old, record.block, record.sequence)[part]
+    return f.map + 4 * record.sector, DATA_WORD + record.block
+
+
+def stepped(f, record):
+    """The record after one more store: after the last the lane is idle and its old block is free."""
+    busy, block, half, sequence, sector, old, made = record
+    if made + 1 < f.size // 4 + 5:
+        return Record(busy, block, half, sequence, sector, old, made + 1)
+    return Record(0, old, 1 - half, model.successor(sequence), 0, 0, 0)
+
+
+def step(arena, handle, lane, buffer):
+    """Makes exactly one store."""
+    number = refusal("step", arena, handle, lane, 0, len(buffer))
+    if number == 0:
+        f, record = handle.figures, handle.records[lane]
+        put(arena, *store(f, lane, record, buffer))
+        handle.records[lane] = stepped(f, record)
+    return number
+
+
+def whole(arena, handle, lane, sector, buffer):
+    """The list of (offset, value) that a whole write stores, and the lane's record after it; nothing is changed."""
+    f = handle.figures
+    record, stores = started(arena, f, handle.records[lane], sector), []
+    while record.busy:
+        stores.append(store(f, lane, record, buffer))
+        record = stepped(f, record)
+    return stores, record
+
+
+def write(arena, handle, lane, sector, buffer):
+    """A start and all steps in one call, refused before any store."""
+    number = refusal("write", arena, handle, lane, sector, len(buffer))
+    if number == 0:
+        stores, handle.records[lane] = whole(arena, handle, lane, sector, buffer)
+        for offset, value in stores:
+            put(arena, offset, value)
+    return number

@@ -1,0 +1,201 @@
+"""Forged handles and random calls: what a history gives the library beside the latest handle and calls that are accepted."""
+import calls
+import library
+import model
+
+TOP32, TOP64 = 2**32, 2**64
+SIZES = ("size", "sectors", "internal", "blocks", "lanes")
+STARTS = ("data", "map", "flog", "copy")
+
+
+def near(rng, value, top):
+    """A number near a figure, or one of those that sums go wrong with."""
+    steps = (value + 1, value - 1, value + 4096, value - 4096, value + 4, value * 8, value // 8, 2 * value)
+    return rng.choice(steps + (0, 1, 17, 512, 4096, top - 1, top - 4096, top // 2)) % top
+
+
+def one_size(rng, handle, f):
+    name = rng.choice(SIZES)
+    setattr(f, name, near(rng, getattr(f, name), TOP32))
+
+
+def one_start(rng, handle, f):
+    name = rng.choice(STARTS)
+    setattr(f, name, near(rng, getattr(f, name), TOP64))
+
+
+def odd_start(rng, handle, f):
+    """A start that is no multiple of 4,096 but keeps every other rule, where there is room for it."""
+    name, before = rng.choice((("data", 4096), ("map", f.data + f.blocks * f.size), ("flog", f.map + 4 * f.sectors)))
+    end = {"data": f.map - f.blocks * f.size, "map": f.flog - 4 * f.sectors, "flog": f.copy - 64 * f.lanes}[name]
+    setattr(f, name, max(before, end - rng.choice((0, 4, 1, 512))))
+
+
+def low_data(rng, handle, f):
+    f.data = 0
+
+
+def other_length(rng, handle, f):
+    handle.length = near(rng, handle.length, TOP64)
+
+
+def other_slice(rng, handle, f):
+    """Allowed figures of an arena that is one block longer or shorter than the slice."""
+    change = rng.choice((4096, -4096))
+    f.copy += change
+    handle.length += rng.choice((0, change))
+
+
+def early_copy(rng, handle, f):
+    """A copy that starts where the flog may end, but not in the last 4,096 bytes; often the parts before it move too."""
+    gap = rng.choice((4096, 8192))
+    for name in rng.choice((("copy",), ("copy", "flog"), ("copy", "flog", "map"))):
+        setattr(f, name, getattr(f, name) - gap)
+
+
+def fewer_sectors(rng, handle, f):
+    """Other figures, all allowed."""
+    fewer = rng.randint(0, f.sectors - min(f.lanes, f.sectors))
+    f.sectors, f.blocks = f.sectors - fewer, f.blocks - fewer
+
+
+def fewer_lanes(rng, handle, f):
+    """Fewer lanes, so that records of lanes in use lie past them; the blocks match or not."""
+    fewer = rng.randint(0, f.lanes - 1)
+    f.lanes -= fewer
+    f.blocks -= rng.choice((fewer, fewer, 0))
+
+
+def more_lanes(rng, handle, f):
+    """More lanes, whose records are sound or zeroes."""
+    more = rng.choice((1, 2, 16))
+    if rng.random() < 0.7:
+        handle.records[f.lanes : f.lanes + more] = [calls.Record(0, 0, 0, 1)] * len(handle.records[f.lanes : f.lanes + more])
+    f.lanes += more
+    kept = rng.choice(("blocks", "sectors"))
+    if kept == "blocks" and f.sectors > more:
+        f.sectors -= more
+    else:
+        f.blocks += more
+
+
+def too_few_sectors(rng, handle, f):
+    """Fewer sectors than lanes, all else as allowed."""
+    f.sectors = max(f.lanes - rng.choice((0, 1, 1)), 0)
+    f.blocks = f.sectors + f.lanes
+
+
+def other_size(rng, handle, f):
+    """Another sector size, allowed or not, with sizes that match it and few enough sectors to fit."""
+    f.size = f.internal = rng.choice((512, 4096, 4096, 256, 520, 1024, 8192, 0))
+    if rng.random() < 0.7:
+        f.sectors = max(f.lanes, min(f.sectors, (f.map - f.data) // max(f.size, 1) - f.lanes))
+        f.blocks = f.sectors + f.lanes
+
+
+def overlapping(rng, handle, f):
+    """A part that ends just past the next start."""
+    which = rng.choice(("data", "map", "flog"))
+    if which == "data":
+        f.data = f.map - f.blocks * f.size // 4096 * 4096
+    elif which == "map":
+        f.flog = f.map
+    else:
+        f.flog = f.copy
+
+
+def wrapping(rng, handle, f):
+    """Starts whose sums would wrap in 64 bits to something allowed."""
+    if rng.random() < 0.5:
+        f.data = TOP64 - 4096 * rng.randint(1, max(1, f.blocks * f.size // 4096))
+    else:
+        f.map, f.sectors = TOP64 - 4096, rng.choice((1024, 1100))
+        f.blocks = f.sectors + f.lanes
+
+
+def one_record(rng, handle, f):
+    """One field of one record, below or past the lanes, at an edge of its range or beyond."""
+    lane, field = rng.randrange(model.MAX_LANES), rng.choice(calls.Record._fields)
+    if rng.random() < 0.8:
+        lane = rng.randrange(f.lanes)
+    full = f.size // 4 + 5
+    edges = {
+        "busy": (0, 1, 2, 256, TOP32 - 1),
+        "block": (0, f.blocks - 1, f.blocks, rng.randrange(f.blocks)),
+        "half": (0, 1, 2, TOP32 - 1),
+        "sequence": (0, 1, 2, 3, 4, TOP32 - 1),
+        "sector": (0, f.sectors - 1, f.sectors, rng.randrange(f.sectors)),
+        "old": (0, f.blocks - 1, f.blocks, rng.randrange(f.blocks)),
+        "made": (0, 1, full - 7, full - 6, full - 5, full - 3, full - 2, full - 1, full, TOP32 - 1),
+    }
+    value = rng.choice(edges[field] + (rng.getrandbits(32),) * (rng.random() < 0.1))
+    handle.records[lane] = handle.records[lane]._replace(**{field: value})
+
+
+def sound_record(rng, handle, f):
+    """A whole record in range, idle or busy, near an edge of its write."""
+    words = f.size // 4
+    made = rng.choice((0, words - 1, words, words + 1, words + 2, words + 3, words + 4, rng.randrange(words)))
+    block, old, sector = rng.randrange(f.blocks), rng.randrange(f.blocks), rng.randrange(f.sectors)
+    handle.records[rng.randrange(f.lanes)] = calls.Record(rng.randrange(2), block, rng.randrange(2), rng.randint(1, 3), sector, old, made)
+
+
+def past_the_lanes(rng, handle, f):
+    """Records past the lanes, with anything in them and often busy."""
+    for lane in range(f.lanes, model.MAX_LANES):
+        sector = rng.choice((rng.randrange(f.sectors), rng.getrandbits(32)))
+        handle.records[lane] = calls.Record(rng.choice((0, 1, 1, 2)), *(rng.getrandbits(32) for _ in range(3)), sector, rng.getrandbits(32), 0)
+
+
+def reserved_word(rng, handle, f):
+    """A reserved word that is not 0, where the library says what becomes of it."""
+    handle.reserved = rng.getrandbits(32) if library.RESERVED_IS_KEPT else 0
+
+
+KINDS = (reserved_word, one_size, one_start, odd_start, low_data, other_length, other_slice, early_copy, fewer_sectors, fewer_lanes, more_lanes)
+KINDS += (too_few_sectors, other_size, overlapping, wrapping) + (one_record,) * 6 + (sound_record,) * 3 + (past_the_lanes,) * 2
+
+
+def forge(rng, handle):
+    """A copy of an allowed handle with one thing changed, or two."""
+    forged = handle.copy()
+    kinds = rng.sample(KINDS, 2) if rng.random() < 0.25 else [rng.choice(KINDS)]
+    for kind in sorted(kinds, key=KINDS.index, reverse=True):
+        kind(rng, forged, forged.figures)
+    for names, top in ((SIZES, TOP32), (STARTS, TOP64)):
+        for name in names:
+            setattr(forged.figures, name, getattr(forged.figures, name) % top)
+    forged.length %= TOP64
+    return forged
+
+
+def a_lane(rng, handle):
+    """A lane number: most often one of the lanes, else one past them."""
+    lanes = handle.figures.lanes
+    if rng.random() < 0.75:
+        return rng.randrange(max(1, min(lanes, model.MAX_LANES)))
+    return rng.choice((lanes, lanes + 1, 15, 16, TOP32 - 1)) % TOP32
+
+
+def a_sector(rng, handle, focus=None):
+    """A sector number: any, the one looked at, one in flight, or one past the last."""
+    chance, sectors = rng.random(), handle.figures.sectors
+    if focus is not None and chance < 0.6:
+        return focus
+    flying = [record.sector for record in handle.records if record.busy]
+    if chance < 0.7 and flying:
+        return rng.choice(flying)
+    if chance < 0.9:
+        return rng.choice((0, rng.randrange(max(1, sectors))))
+    return rng.choice((sectors, sectors + 1, 2**30, TOP32 - 1)) % TOP32
+
+
+def a_length(rng, handle):
+    """A sector buffer's length: most often right."""
+    size = handle.figures.size if handle.figures.size in (512, 4096) else 512
+    return size if rng.random() < 0.7 else rng.choice((size - 1, size + 1, 0, 511, 512, 513, 4095, 4096))
+
+
+def a_call(rng, handle, focus=None):
+    """The name of a call and its lane, sector and buffer length, any of them perhaps wrong."""
+    return rng.choice(("read", "start", "step", "step", "write")), a_lane(rng, handle), a_sector(rng, handle, focus), a_length(rng, handle)

@@ -1,0 +1,375 @@
+"""Random histories of calls, each call made by the model and by a library and compared, with the promises of the rules checked at every cut.
+
+A history begins with a made, a random valid or a damaged arena, and goes on with calls through the latest handle, power cuts and openings.
+Run as a program, with a first seed and a number of histories, it tries the library, or the model against itself while there is none.
+"""
+import random
+import sys
+import time
+
+import arenas
+import book
+import calls
+import forged
+import library
+import model
+import random_arenas
+from pair import Difference, Notes, Pair
+
+AMPLE = 2**15
+
+
+class History:
+    """One history: the pair, the row of sectors, and the book of the list while its premise holds."""
+
+    def __init__(self, lib, seed, notes):
+        self.lib, self.rng, self.notes = lib, random.Random(seed), notes
+        self.careful, self.must_open = self.rng.random() < 0.8, True
+        self.pair = self.row = self.book = self.first_handle = self.after_list = None
+        self.bytes = {}
+
+    def run(self):
+        """Runs to the end, or raises Difference."""
+        self.begin()
+        for _ in range(self.rng.choice((1, 1, 2, 3))):
+            if not self.open():
+                return self.after_refusal()
+            self.work()
+            self.cut()
+        return self.open()
+
+    def demand(self, holds, what):
+        if not holds:
+            self.pair.fail("not so: " + what)
+
+    # The starting arena.
+
+    def begin(self):
+        rng = self.rng
+        chance, sizes = rng.random(), random_arenas.small_sizes(rng)
+        if chance < 0.4:
+            return self.make(*sizes)
+        if chance < 0.9:
+            arena = random_arenas.aged(rng, *random_arenas.valid(rng, (sizes,)))
+            arena = random_arenas.one_sound_block(rng, arena) if rng.random() < 0.3 else arena
+        else:
+            arena, self.must_open = random_arenas.damaged(rng)[0], False
+        self.pair = Pair(self.lib, arena, rng, self.notes)
+
+    def make(self, size, sectors, lanes):
+        """A made arena, its sectors all zeroes, after some calls of making with anything wrong."""
+        rng, f = self.rng, model.made_figures(size, sectors, lanes)
+        self.pair = Pair(self.lib, rng.randbytes(f.copy + 4096), rng, self.notes)
+        for _ in range(rng.choice((0, 0, 1, 3))):
+            wrong = [size, sectors, lanes, 16, 16]
+            for place in rng.sample(range(5), rng.choice((1, 1, 2))):
+                wrong[place] = rng.choice((0, 1, 15, 17, 512, 520, wrong[place] + 1, 4096) + (2**32 - 1,) * (place < 3))
+            self.pair.make(*wrong[:3], rng.randbytes(wrong[3]), rng.randbytes(wrong[4]))
+        self.pair.make(size, sectors, lanes, rng.randbytes(16), rng.randbytes(16))
+        self.row = book.Row(self.pair.arena, f)
+        self.demand(self.row.sectors == [(0, bytes(size))] * sectors, "the sectors of a made arena are zeroes")
+
+    # Openings, and what must hold after them.
+
+    def open(self):
+        """Any cut openings and refused ones, then one with room; whether the arena was accepted."""
+        rng, pair = self.rng, self.pair
+        plain = bytearray(pair.arena)
+        expected = model.open_arena(plain, bytearray(AMPLE))
+        blocks = 64 if expected.number else expected.figures.blocks
+        left = self.pending(expected.mended)
+        for _ in range(rng.choice((0, 0, 1, 2, 4))):
+            k = rng.choice((0, 0, 1, 1, 2, 3, 15, 16, 2**32 - 1))
+            number, count = pair.cut_open(self.some_room(blocks), k)
+            self.demand(number != 0 or count == left, "a cut opening counts the lanes pending as found")
+            left -= min(k, left) if number == 0 else 0
+        number = 5
+        while number == 5:
+            number, count = pair.open(self.some_room(blocks))
+        self.demand(number == expected.number, "the answer is the same after cut openings")
+        self.demand(number == 0 or not self.must_open, "given room to work, the arena opens")
+        if number:
+            return False
+        self.demand(count == left, "opening counts the lanes pending as found")
+        self.demand(pair.arena == plain, "the arena ends as without cut openings")
+        self.demand(pair.handle == calls.handle_of(expected, len(plain)), "the lanes end as without cut openings")
+        self.opened()
+        return True
+
+    def some_room(self, blocks):
+        return self.rng.choice((blocks, blocks, blocks + 1, blocks + 40, blocks - 1, 0))
+
+    def pending(self, found):
+        """How many lanes are pending: after a cut by the tallies, else as found."""
+        if self.row is None:
+            return found
+        count = self.row.cut()
+        self.demand(count == found, "a lane is pending exactly if its write's last store was the sequence word")
+        return count
+
+    def opened(self):
+        """Checks the promises on the arena just opened, and begins a new list."""
+        pair, f = self.pair, self.pair.handle.figures
+        lanes = [(record.block, record.half, record.sequence) for record in pair.handle.records[: f.lanes]]
+        self.demand(book.each_block_once(pair.arena, f, [lane[0] for lane in lanes]), "mapped and free blocks are every block once")
+        row = book.Row(pair.arena, f)
+        if self.row is not None:
+            self.demand(row.sectors == self.row.sectors, "a sector is new exactly if its write's sequence word was stored, else as before")
+        if self.book is not None:
+            self.demand(pair.arena == self.book.mended(self.after_list), "opening stores just the map word of each pending write")
+            self.demand(lanes == self.book.lanes_after_opening(), "the lanes are those that the book gives")
+        self.row, self.must_open = row, True
+        self.begin_list()
+        for sector in self.rng.sample(range(f.sectors), min(f.sectors, 2)):
+            self.call("read", 0, sector, f.size)
+
+    def after_refusal(self):
+        """Calls with the handle of a refused opening: all answer 16."""
+        for _ in range(3):
+            number = self.perform(self.pair, *forged.a_call(self.rng, self.pair.handle))
+            self.demand(number == 16, "the handle of a refused opening is refused")
+
+    # Power cuts.
+
+    def cut(self):
+        """The power cut: perhaps inside a whole write, of which some stores are kept."""
+        if self.rng.random() < 0.4:
+            self.cut_write()
+        for write in self.row.flying.values():
+            self.notes.cuts[max(0, write.tally - self.row.words)] += 1
+        self.end_list()
+        self.pair.drop()
+
+    def begin_list(self):
+        """Begins a list, all lanes being idle."""
+        self.book, self.first_handle = book.Book(self.pair.arena, self.pair.handle.figures), self.pair.handle.copy()
+
+    def end_list(self):
+        """Checks the arena after the list; with all writes finished they are made one after another too, in any order."""
+        if self.book is None:
+            return
+        self.after_list = self.book.arena(self.rng)
+        self.demand(self.pair.arena == self.after_list, "the arena is the first one with each write's first stores put in")
+        writes = self.book.writes
+        if len(writes) > 1 and not self.row.flying:
+            alone = self.pair.aside(self.book.first, self.first_handle)
+            for write in self.rng.sample(writes, len(writes)):
+                alone.write(write.lane, write.sector, bytes(write.contents))
+            self.demand(alone.arena == self.pair.arena and alone.handle == self.pair.handle, "finished writes are as if made one after another")
+
+    def cut_write(self):
+        """A whole write of which the cut keeps the first stores only; the library makes it whole on a copy."""
+        rng, pair = self.rng, self.pair
+        place = self.room_for_a_write()
+        if place is not None:
+            buffer, words = rng.randbytes(self.row.size), self.row.words
+            kept = rng.choice((0, rng.randrange(words), words, words + 1, words + 2, words + 3, words + 3, words + 4, words + 4))
+            pair.aside().write(*place, buffer)
+            pair.put(calls.whole(pair.arena, pair.handle, *place, buffer)[0][:kept])
+            self.note_start(*place)
+            self.row.whole(place[0], buffer, kept)
+
+    # Calls through the latest handle.
+
+    def call(self, name, lane, sector, lent):
+        """A call with this buffer, or one of that length, answered as the book says and noted in the row and the book."""
+        pair, length = self.pair, lent if isinstance(lent, int) else len(lent)
+        if name == "read":
+            return self.read(sector, length)
+        buffer = self.rng.randbytes(length) if isinstance(lent, int) else lent
+        by_table = self.book and self.book.answer(name, lane, sector, length)
+        if name == "step":
+            number = pair.step(lane, buffer)
+        else:
+            number = pair.start(lane, sector) if name == "start" else pair.write(lane, sector, buffer)
+        self.demand(by_table is None or number == by_table, "the book answers as the call does")
+        if number == 0 and name == "step":
+            self.row.step(lane, buffer)
+        elif number == 0:
+            self.note_start(lane, sector)
+            if name == "write":
+                self.row.whole(lane, buffer, self.row.words + 5)
+        return number
+
+    def read(self, sector, length):
+        """A read gives what the row of sectors has, or leaves its buffer."""
+        number, before, after = self.pair.read(sector, length)
+        if length == self.row.size and sector < len(self.row.sectors):
+            expected, contents = self.row.sectors[sector]
+            self.demand(number == expected and after == (before if number else contents), "a read gives the last finished write")
+        else:
+            self.demand(number in (9, 10) and after == before, "a refused read leaves its buffer")
+        return number
+
+    def note_start(self, lane, sector):
+        write = self.row.start(lane, sector)
+        self.bytes[lane] = self.rng.randbytes(self.row.size)
+        if self.book is not None:
+            self.book.writes.append(write)
+
+    def keeps_list(self, lane, sector):
+        """Whether a write may start there: a new list begins where it can, and only a careless history gives up the premise."""
+        if self.book is not None and self.book.fits(lane, sector) and self.rng.random() < 0.95:
+            return True
+        if not self.row.flying:
+            self.end_list()
+            self.begin_list()
+        elif self.book is not None and not self.book.fits(lane, sector):
+            if self.careful:
+                return False
+            self.book = None
+        return True
+
+    def room_for_a_write(self):
+        """An idle lane and a sector that is not in flight, if such are found."""
+        lanes = [lane for lane in range(self.pair.handle.figures.lanes) if lane not in self.row.flying]
+        taken = {write.sector for write in self.row.flying.values()}
+        for _ in range(4 if lanes else 0):
+            lane, sector = self.rng.choice(lanes), self.rng.randrange(len(self.row.sectors))
+            if sector not in taken and self.keeps_list(lane, sector):
+                return lane, sector
+        return None
+
+    def work(self):
+        """Some writes, each stepped to a tally of its own, in bursts and mixed with all other calls."""
+        rng, words = self.rng, self.row.words
+        wanted, aims = rng.choice((0, 1, 1, 2, 2, 3, 5) * 6 + (16,) if words == 128 else (0, 1, 1)), {}
+        while wanted or any(self.tally(lane) < aim for lane, aim in aims.items()):
+            if wanted and rng.random() < 0.5:
+                wanted -= 1
+                place = self.room_for_a_write()
+                if place and self.call("start", *place, 0) == 0:
+                    early = (0, 1, rng.randrange(words), words - 1, words, words + 1, words + 2)
+                    aims[place[0]] = rng.choice(early + (words + 3, words + 4, words + 5, words + 5, words + 5))
+            short = [lane for lane, aim in aims.items() if self.tally(lane) < aim]
+            if short:
+                self.burst(rng.choice(short), aims)
+            for _ in range(rng.choice((0, 1, 2, 4))):
+                self.other()
+
+    def tally(self, lane):
+        """The tally of the lane's write, above every aim once it is finished."""
+        return self.row.flying[lane].tally if lane in self.row.flying else 2**32
+
+    def burst(self, lane, aims):
+        """Some steps of one lane, seldom with other bytes than before."""
+        for _ in range(self.rng.choice((1, 1, 2, 30, 200, 1100))):
+            if self.tally(lane) >= aims[lane]:
+                break
+            if not self.careful and self.rng.random() < 0.02:
+                self.bytes[lane] = self.rng.randbytes(self.row.size)
+            self.call("step", lane, 0, self.bytes[lane])
+
+    def other(self):
+        """A read, a whole write, any call at all, or calls on a copy."""
+        rng, chance = self.rng, self.rng.random()
+        if chance < 0.2:
+            self.call("read", 0, rng.randrange(len(self.row.sectors)), self.row.size)
+        elif chance < 0.35:
+            place = self.room_for_a_write()
+            if place:
+                self.call("write", *place, self.row.size)
+        elif chance < 0.7:
+            self.any_call()
+        else:
+            self.aside()
+
+    def any_call(self):
+        """A call with any lane, sector and buffer length; one that would break the list is left out."""
+        pair = self.pair
+        name, lane, sector, length = forged.a_call(self.rng, pair.handle)
+        if name == "read" or self.book is None:
+            accepted = calls.refusal(name, pair.arena, pair.handle, lane, sector, length) == 0
+        else:
+            accepted = self.book.answer(name, lane, sector, length) == 0
+        if not accepted or name not in ("start", "write") or self.keeps_list(lane, sector):
+            self.call(name, lane, sector, self.bytes[lane] if accepted and name == "step" else length)
+
+    # Calls on a copy, that are given what is not the latest.
+
+    def aside(self):
+        """Calls with a forged handle, a map word changed by another hand, or a slice of another length."""
+        rng, pair, chance = self.rng, self.pair, self.rng.random()
+        focus = None
+        if chance < 0.65:
+            copy = pair.aside(handle=forged.forge(rng, pair.handle))
+        elif chance < 0.92:
+            copy, f = pair.aside(), pair.handle.figures
+            focus = forged.a_sector(rng, pair.handle) % f.sectors
+            low = rng.choice((0, f.blocks - 1, f.blocks, 2**30 - 1, rng.randrange(f.blocks)))
+            copy.put([(f.map + 4 * focus, rng.randrange(4) << 30 | low)])
+        else:
+            copy = pair.aside(arena=rng.choice((pair.arena + bytes(4096), pair.arena[:-4096], pair.arena[:-1], b"")))
+            copy.handle.length = rng.choice((copy.handle.length, len(copy.arena)))
+            copy.hold(copy.handle)
+        for _ in range(rng.choice((1, 2, 4))):
+            self.perform(copy, *forged.a_call(rng, copy.handle, focus))
+        busy = [lane for lane, record in enumerate(copy.handle.records) if record.busy]
+        for _ in range(rng.choice((1, 6, 6, 12)) if busy else 0):
+            self.perform(copy, "step", busy[0] if rng.random() < 0.8 else rng.choice(busy), 0, forged.a_length(rng, copy.handle))
+
+    def perform(self, pair, name, lane, sector, length):
+        """One call on that pair, with random bytes."""
+        if name == "read":
+            return pair.read(sector, length)[0]
+        if name == "start":
+            return pair.start(lane, sector)
+        buffer = self.rng.randbytes(length)
+        return pair.step(lane, buffer) if name == "step" else pair.write(lane, sector, buffer)
+
+
+def named(lib, notes):
+    """The arenas that the report is run on, opened with and without room and by cut openings."""
+    for arena in arenas.all_arenas().values():
+        pair = Pair(lib, arena, random.Random(len(arena)), notes)
+        for room, k in ((128, 0), (63, 1), (128, 1), (64, 16)):
+            pair.cut_open(room, k)
+        pair = Pair(lib, arena, random.Random(len(arena)), notes)
+        for room in (0, 63, 64, 128):
+            pair.open(room)
+
+
+def longest(lib, notes):
+    """A handle that fits a slice of the greatest length is accepted, and one of a slice that is a block longer is not."""
+    for length, number in ((16777216, 0), (16777216 + 4096, 16)):
+        pair = Pair(lib, bytes(length), random.Random(length), notes)
+        figures = model.Figures(512, 1, 512, 2, 1, 4096, 8192, 12288, length - 4096)
+        pair.hold(calls.Handle(length, figures, [calls.Record(0, 1, 0, 1)] + [calls.Record()] * 15))
+        if pair.start(0, 0) != number:
+            pair.fail("not so: the start answers %d" % number)
+
+
+def run(lib, count, first=1):
+    """Runs the fixed arenas and then histories from that seed on, to the first fault; gives the notes, the last seed and the fault."""
+    notes, seed = Notes(), 0
+    try:
+        named(lib, notes)
+        longest(lib, notes)
+        for seed in range(first, first + count):
+            notes.log.clear()
+            History(lib, seed, notes).run()
+    except Difference as fault:
+        return notes, seed, str(fault)
+    return notes, seed, None
+
+
+def unseen(notes):
+    """The numbers that no call of a kind gave, of those it can give, and the places where no write was cut."""
+    wanted = {name: (0,) + order for name, order in calls.ORDER.items()}
+    wanted.update(make=(0, 1, 3, 10), open=range(9), cut_open=range(9))
+    missing = ["%s %d" % (name, number) for name, numbers in wanted.items() for number in numbers if not notes.seen[name, number]]
+    return missing + ["cut %d words after the data" % place for place in range(5) if not notes.cuts[place]]
+
+
+def main(first=1, count=500):
+    lib = library.built() if library.listed("btt") else library.ModelLibrary()
+    began = time.process_time()
+    notes, last, fault = run(lib, count, first)
+    print(dict(sorted(notes.seen.items())), "cuts", dict(sorted(notes.cuts.items())))
+    print("%d calls to history %d, fault: %s, never seen: %s" % (sum(notes.seen.values()), last, fault, unseen(notes)))
+    print("%.1f s" % (time.process_time() - began))
+    return 1 if fault else 0
+
+
+if __name__ == "__main__":
+    sys.exit(main(*[int(word) for word in sys.argv[1:]]))

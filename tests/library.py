@@ -1,0 +1,167 @@
+"""The library behind its C declarations, by ctypes, and the bytes of a handle.
+
+Every call takes bytearrays and changes them in place; LIBRARY_CALLS is the only place that says what each C function takes.
+"""
+import ctypes
+import itertools
+import pathlib
+import struct
+import subprocess
+
+import calls
+import model
+
+TOP = pathlib.Path(__file__).resolve().parent.parent
+ARCHIVE = TOP / "target" / "staticlib" / "libbtt.a"
+SHARED = TOP / "target" / "libbtt.so"
+
+# What a parameter is in C: bytes are a pointer and a length, a handle a pointer (and a length, if so said), a word a u32, a count a pointer to one.
+# An accepted call keeps the handle's reserved word, if so said; a refused one always does.
+BYTES, HANDLE, WORD, COUNT = "bytes", "handle", "word", "count"
+HANDLE_HAS_LENGTH = False
+RESERVED_IS_KEPT = True
+LIBRARY_CALLS = {
+    "btt_make": (BYTES, WORD, WORD, WORD, BYTES, BYTES),
+    "btt_open": (BYTES, BYTES, HANDLE, COUNT),
+    "btt_cut_open": (BYTES, BYTES, WORD, COUNT),
+    "btt_read": (BYTES, HANDLE, WORD, BYTES),
+    "btt_start": (BYTES, HANDLE, WORD, WORD),
+    "btt_step": (BYTES, HANDLE, WORD, BYTES),
+    "btt_write": (BYTES, HANDLE, WORD, WORD, BYTES),
+}
+
+# Length and the four starts; sector size, sectors, internal size, blocks, lanes and a reserved word; 16 records of seven words.
+HANDLE_FORM = struct.Struct("<5Q6I112I")
+HANDLE_BYTES = HANDLE_FORM.size
+
+
+def handle_bytes(handle):
+    """The 512 bytes of a handle of the model."""
+    f = handle.figures
+    starts = (f.data, f.map, f.flog, f.copy)
+    sizes = (f.size, f.sectors, f.internal, f.blocks, f.lanes, handle.reserved)
+    return HANDLE_FORM.pack(handle.length, *starts, *sizes, *itertools.chain.from_iterable(handle.records))
+
+
+def handle_from(data):
+    """The handle of the model that these 512 bytes are."""
+    length, *starts = struct.unpack_from("<5Q", data)
+    size, sectors, internal, blocks, lanes, reserved = struct.unpack_from("<6I", data, 40)
+    records = [calls.Record(*words) for words in struct.iter_unpack("<7I", memoryview(data)[64:])]
+    return calls.Handle(length, model.Figures(size, sectors, internal, blocks, lanes, *starts), records, reserved)
+
+
+def listed(crate):
+    """Whether crates.txt lists that crate."""
+    lines = (TOP / "crates.txt").read_text().splitlines()
+    return any(line.split(":")[0].strip() == crate for line in lines if not line.startswith("#"))
+
+
+def built():
+    """The library, its shared object made anew from the crate's static library."""
+    whole = ["-Wl,--whole-archive", str(ARCHIVE), "-Wl,--no-whole-archive"]
+    for command in (["rt", "staticlib", "btt"], ["gcc", "-shared", "-o", str(SHARED), *whole]):
+        done = subprocess.run(command, cwd=TOP, capture_output=True, text=True)
+        if done.returncode:
+            raise SystemExit("tests: %s failed\n%s%s" % (" ".join(command[:3]), done.stdout, done.stderr))
+    return Library(SHARED)
+
+
+def c_types(kinds):
+    """The C types of parameters of these kinds."""
+    pointer, length = [ctypes.c_void_p], [ctypes.c_size_t]
+    forms = {BYTES: pointer + length, HANDLE: pointer + length * HANDLE_HAS_LENGTH, WORD: [ctypes.c_uint32], COUNT: pointer}
+    return [c_type for kind in kinds for c_type in forms[kind]]
+
+
+def address(data):
+    """A C array that lies on the bytes of a bytearray."""
+    return (ctypes.c_uint8 * len(data)).from_buffer(data)
+
+
+class Library:
+    """The library's calls, each giving its number, and the mended count where there is one."""
+
+    def __init__(self, path):
+        shared = ctypes.CDLL(str(path))
+        self.functions = {}
+        for name, kinds in LIBRARY_CALLS.items():
+            function = getattr(shared, name)
+            function.argtypes, function.restype = c_types(kinds), ctypes.c_uint32
+            self.functions[name] = (function, kinds)
+
+    def call(self, name, *arguments):
+        """Calls the C function, lending each bytearray by pointer and length."""
+        function, kinds = self.functions[name]
+        given = []
+        for kind, argument in zip(kinds, arguments, strict=True):
+            if kind is WORD:
+                given.append(argument)
+            elif kind is COUNT:
+                given.append(ctypes.byref(argument))
+            else:
+                given.append(address(argument))
+                if kind is BYTES or HANDLE_HAS_LENGTH:
+                    given.append(len(argument))
+        return function(*given)
+
+    def make(self, arena, size, sectors, lanes, first, second):
+        return self.call("btt_make", arena, size, sectors, lanes, first, second)
+
+    def open(self, arena, work, handle):
+        mended = ctypes.c_uint32(0xA5A5A5A5)
+        return self.call("btt_open", arena, work, handle, mended), mended.value
+
+    def cut_open(self, arena, work, k):
+        mended = ctypes.c_uint32(0xA5A5A5A5)
+        return self.call("btt_cut_open", arena, work, k, mended), mended.value
+
+    def read(self, arena, handle, sector, buffer):
+        return self.call("btt_read", arena, handle, sector, buffer)
+
+    def start(self, arena, handle, lane, sector):
+        return self.call("btt_start", arena, handle, lane, sector)
+
+    def step(self, arena, handle, lane, buffer):
+        return self.call("btt_step", arena, handle, lane, buffer)
+
+    def write(self, arena, handle, lane, sector, buffer):
+        return self.call("btt_write", arena, handle, lane, sector, buffer)
+
+
+class ModelLibrary:
+    """The model behind the library's interface, so that the histories can be tried without a library."""
+
+    def __init__(self, calls_module=calls, model_module=model):
+        self.calls, self.model = calls_module, model_module
+
+    def make(self, arena, size, sectors, lanes, first, second):
+        return self.model.make(arena, size, sectors, lanes, first, second)
+
+    def open(self, arena, work, handle):
+        opened = self.model.open_arena(arena, work)
+        handle[:] = handle_bytes(self.calls.handle_of(opened, len(arena)))
+        return opened.number, opened.mended
+
+    def cut_open(self, arena, work, k):
+        opened = self.model.cut_open(arena, work, k)
+        return opened.number, opened.mended
+
+    def read(self, arena, handle, sector, buffer):
+        return self.calls.read(arena, handle_from(handle), sector, buffer)
+
+    def through(self, call, arena, handle, *arguments):
+        """Makes a call that may change the handle's bytes."""
+        decoded = handle_from(handle)
+        number = call(arena, decoded, *arguments)
+        handle[:] = handle_bytes(decoded)
+        return number
+
+    def start(self, arena, handle, lane, sector):
+        return self.through(self.calls.start, arena, handle, lane, sector)
+
+    def step(self, arena, handle, lane, buffer):
+        return self.through(self.calls.step, arena, handle, lane, buffer)
+
+    def write(self, arena, handle, lane, sector, buffer):
+        return self.through(self.calls.write, arena, handle, lane, sector, buffer)

@@ -1,0 +1,228 @@
+"""The model with one deliberate mistake, in the place of a library, to see that the histories find it.
+
+A mistake is an edit of the model's text. Run as a program it says how many histories each takes, and fails if one is not found.
+The mistakes of PROMISED are put into both sides as well, where only the promises of the rules can find them.
+"""
+import contextlib
+import pathlib
+import sys
+import time
+import types
+
+import calls
+import histories
+import library
+import model
+
+HERE = pathlib.Path(__file__).resolve().parent
+LIMIT = 600
+
+TALLY = "k, words = record.made, f.size // 4"
+DATA = "record.block + 4 * k, int.from_bytes(buffer[4 * k : 4 * k + 4]"
+LAST = "Record(0, old, 1 - half, model.successor(sequence), 0, 0, 0)"
+OLD = "old = model.block_of(sector, map_word(arena, f, sector))"
+START = "        handle.records[lane] = started("
+STEP = "        handle.records[lane] = stepped(f, record)\n"
+STEP_RECORD = "        f, record = handle.figures, handle.records[lane]\n"
+FIELDS = "    busy, block, half, sequence, sector, old, made = record\n    return (\n"
+IDLE_FIELDS = "    sector, old, made = (sector, old, made) if busy else (0, 0, 0)\n"
+WRITE = "        stores, handle.records[lane] = whole(arena, handle, lane, sector, buffer)\n"
+READ = 'number = refusal("read", arena, handle, 0, sector, len(buffer))\n'
+LANES_JUDGED = "for record in handle.records[: f.lanes]:"
+
+# A mistake's name, the text that it takes the place of, and the text it has instead.
+CALL_MISTAKES = {
+    "sequence before new": ("part = k - words", "part = (0, 1, 3, 2)[k - words]"),
+    "map word before the flog": (TALLY, "words = f.size // 4; k = min(record.made, words + (record.made - words - 1) % 5)"),
+    "flog before the data": (TALLY, "words = f.size // 4; k = (record.made + words) % (words + 4) if record.made < words + 4 else words + 4"),
+    "data words in falling order": (TALLY, TALLY + "; k = words - 1 - k if k < words else k"),
+    "data into the old block": (DATA, DATA.replace("block", "old")),
+    "the newer half is overwritten": ("16 * record.half + 4 * part", "16 * (1 - record.half) + 4 * part"),
+    "a lane's pair is 32 bytes": ("f.flog + 64 * lane", "f.flog + 32 * lane"),
+    "map word without its flags": ("DATA_WORD + record.block", "record.block"),
+    "map word of the old block": ("DATA_WORD + record.block", "DATA_WORD + record.old"),
+    "two stores in a step": (STEP, STEP + "        if record.made == 1:\n            put(arena, *store(f, lane, stepped(f, record), buffer))\n"),
+    "old is not handed back": (LAST, LAST.replace("old", "block")),
+    "half does not move on": (LAST, LAST.replace("1 - half", "half")),
+    "sequence does not move on": (LAST, LAST.replace("model.successor(sequence)", "sequence")),
+    "4 after 3": (LAST, LAST.replace("model.successor(sequence)", "sequence + 1")),
+    "last step leaves the sector": (LAST, LAST.replace("0, 0, 0)", "sector, 0, 0)")),
+    "last step leaves old": (LAST, LAST.replace("0, 0, 0)", "0, old, 0)")),
+    "last step leaves the stores made": (LAST, LAST.replace("0, 0, 0)", "0, 0, made)")),
+    "one store too few": ("if made + 1 < f.size // 4 + 5", "if made + 1 < f.size // 4 + 4"),
+    "start keeps the stores made": ("sector, old, 0)\n\n\ndef start", "sector, old, record.made)\n\n\ndef start"),
+    "start takes low bits of flags 00": (OLD, "old = map_word(arena, f, sector) & 0x3FFFFFFF"),
+    "start stores": (START, "        put(arena, handle.figures.flog, 0)\n" + START),
+    "map read again at a step": (STEP_RECORD, STEP_RECORD + "        record = started(arena, f, record, record.sector)._replace(made=record.made)\n"),
+    "7 judged at a step": ('"step": (16, 11, 14, 10)', '"step": (16, 11, 14, 10, 7)'),
+    "any buffer at the last steps": ("return length != f.size", "return length != f.size and handle.records[min(lane, 15)].made < f.size // 4"),
+    "a longer buffer will do": ("return length != f.size", "return length < f.size"),
+    "a refused write stores": (WRITE, WRITE + "    if number == 13:\n        put(arena, handle.figures.data, 0)\n    if number == 0:\n"),
+    "a bad sector is read as zeroes": (READ, READ + "    if number == 15:\n        buffer[:] = bytes(len(buffer))\n"),
+    "a zeroed sector shows its block": ("if word >> 30 == 3 else", "if word >> 30 in (1, 3) else"),
+    "7 judges flags 00": ("return word >> 30 != 0 and", "return"),
+    "7 lets the block I pass": ("word & 0x3FFFFFFF >= f.blocks", "word & 0x3FFFFFFF > f.blocks"),
+    "9 lets the sector E pass": ("return sector >= f.sectors", "return sector > f.sectors"),
+    "11 lets a lane past the last pass": ("return lane >= f.lanes", "return lane > max(f.lanes, 15)"),
+    "13 on idle records": ("any(record.busy and record.sector == sector", "any(record.sector == sector"),
+    "13 on records past the lanes": ("enumerate(handle.records[: handle.figures.lanes]) if", "enumerate(handle.records) if"),
+    "13 not judged": ("any(record.busy and record.sector == sector", "any(False"),
+    "16 judges busy records only": ("        if bad_record(f, record):", "        if record.busy and bad_record(f, record):"),
+    "16 judges the first record only": (LANES_JUDGED, "for record in handle.records[:1]:"),
+    "16 judges records past the lanes": (LANES_JUDGED, "for record in [r for r in handle.records if r != Record()]:"),
+    "16 without the slice's length": ("handle.length != length or", "False or"),
+    "16 without the allowed length": ("not model.length_allowed(length) or", "False or"),
+    "16 without the record's block": ("block >= f.blocks\n", "False\n"),
+    "16 without the record's old": ("or old >= f.blocks", ""),
+    "16 without the record's half": ("or half > 1", ""),
+    "16 without the record's sequence": ("or not 1 <= sequence <= 3", ""),
+    "16 lets sequence 0 pass": ("1 <= sequence <= 3", "sequence <= 3"),
+    "16 without the record's sector": ("or sector >= f.sectors", ""),
+    "16 without the record's stores made": ("or made >= f.size // 4 + 5", ""),
+    "16 lets S/4 + 5 stores pass": ("or made >= f.size // 4 + 5", "or made > f.size // 4 + 5"),
+    "16 without the record's busy word": ("or busy > 1", ""),
+    "16 passes over fields of idle records": (FIELDS, FIELDS.replace("    return", IDLE_FIELDS + "    return")),
+    "opening leaves the lane's old": ("lane.half, lane.sequence) for", "lane.half, lane.sequence, 0, lane.free) for"),
+}
+
+STARTS_MULTIPLES = "and all(start % 4096 == 0 for start in starts)"
+FREE = ("Lane(old, 1 - half", "Lane(old if block_of(at, mended[at]) == new else new, 1 - half")
+STORES = "    for offset, value in opened.stores[:k]:"
+SIZES_JUDGED = "    if not sizes_allowed(size, sectors, lanes):\n        return 3\n"
+LENGTH_JUDGED = "    if len(arena) != made_figures(size, sectors, lanes).copy + 4096:\n        return 1\n"
+HALF_JUDGED = "        if sector >= f.sectors or old"
+MAP_JUDGED = "        if any(w >> 30 and w & 0x3FFFFFFF >= f.blocks for w in struct.unpack_from('<%dI' % f.sectors, arena, f.map)):\n"
+
+# The same, of figures, making and opening.
+MODEL_MISTAKES = {
+    "figures without the internal size": ("and f.internal == f.size", ""),
+    "figures without the sector size": ("return size in (512, 4096) and", "return size % 4 == 0 and"),
+    "figures without the blocks": ("and f.blocks == f.sectors + f.lanes", ""),
+    "figures without sectors at least lanes": ("and sectors >= lanes", ""),
+    "figures with 17 lanes": ("1 <= lanes <= MAX_LANES", "1 <= lanes <= MAX_LANES + 16"),
+    "figures with no lanes": ("1 <= lanes <= MAX_LANES", "lanes <= MAX_LANES"),
+    "figures with starts anywhere": (STARTS_MULTIPLES, ""),
+    "figures with the data start anywhere": (STARTS_MULTIPLES, STARTS_MULTIPLES.replace("starts)", "starts[1:])")),
+    "figures with the map start anywhere": (STARTS_MULTIPLES, STARTS_MULTIPLES.replace("starts)", "starts if start != f.map)")),
+    "figures with the flog start anywhere": (STARTS_MULTIPLES, STARTS_MULTIPLES.replace("starts)", "starts if start != f.flog)")),
+    "figures with data at 0": ("and f.data >= 4096", ""),
+    "figures without the end of the data": ("and f.data + f.blocks * f.size <= f.map", ""),
+    "figures without the end of the map": ("and f.map + 4 * f.sectors <= f.flog", ""),
+    "figures without the end of the flog": ("and f.flog + 64 * f.lanes <= f.copy", ""),
+    "figures with a copy before the end": ("and f.copy == n - 4096", ""),
+    "sums of the data wrap": ("f.data + f.blocks * f.size <= f.map", "(f.data + f.blocks * f.size) % 2**64 <= f.map"),
+    "sums of the map wrap": ("f.map + 4 * f.sectors <= f.flog", "(f.map + 4 * f.sectors) % 2**64 <= f.flog"),
+    "the larger sequence is newer": ("return 0 if first == successor(second) else 1", "return 0 if first > second else 1"),
+    "an older sequence of 4 passes": ("if first in (1, 2, 3) and second == 0:", "if first in (1, 2, 3) and second in (0, 4):"),
+    "pending if the map lacks new": ("if block_of(h[1], words[h[1]]) == h[2]]", "if block_of(h[1], words[h[1]]) != h[3]]"),
+    "new is free where the map lacks it": (*FREE, "half, _, old, _, seq", "half, at, old, new, seq"),
+    "count of stores made": (STORES, "    opened.mended = min(k, opened.mended)\n" + STORES),
+    "count of all lanes": ("return Opened(0, len(pending), f", "return Opened(0, f.lanes, f"),
+    "mended in falling order": (STORES, STORES.replace("[:k]", "[::-1][:k]")),
+    "cut opening makes one store at least": (STORES, STORES.replace("[:k]", "[: k or 1]")),
+    "cut opening makes all stores": (STORES, STORES.replace("[:k]", "")),
+    "mended to a zeroed sector": ("0xC0000000 + halves[lane][3]) for lane in pending]", "0x40000000 + halves[lane][3]) for lane in pending]"),
+    "the work buffer is kept on 6": ("if opened.number in (0, 6, 7, 8):", "if opened.number in (0, 7, 8):"),
+    "the work buffer is kept on 8": ("if opened.number in (0, 6, 7, 8):", "if opened.number in (0, 6, 7):"),
+    "the whole work buffer is cleared": ("work[:blocks] = bytes(blocks)", "work[:] = bytes(len(work))"),
+    "a work buffer of I - 1 will do": ("if room < f.blocks:", "if room < f.blocks - 1:"),
+    "opening: 7 before 6": (HALF_JUDGED, MAP_JUDGED + "            return Opened(7)\n" + HALF_JUDGED),
+    "opening: 4 before 3": ("    if version != (2, 0) or", "    if flags != 0:\n        return Opened(4)\n    if version != (2, 0) or"),
+    "a forbidden first block is passed over": ("if sound(block):", "if sound(block) and figures_allowed(decode(block)[0], len(arena)):"),
+    "making touches the data": ("    arena[0:4096] = block\n", "    arena[0:4096] = block\n    arena[4096:4100] = bytes(4)\n"),
+    "making leaves the padding": ("    end = f.data + f.blocks * f.size\n", "    end = f.map\n"),
+    "making: 1 before 3": (SIZES_JUDGED, LENGTH_JUDGED + SIZES_JUDGED),
+}
+
+# Mistakes that the promises find with no library to compare with.
+PROMISED = """sequence before new, map word before the flog, flog before the data, data words in falling order, data into the old block,
+the newer half is overwritten, a lane's pair is 32 bytes, map word without its flags, map word of the old block, two stores in a step,
+old is not handed back, half does not move on, sequence does not move on, 4 after 3, one store too few, start takes low bits of flags 00,
+start stores, any buffer at the last steps, a longer buffer will do, a refused write stores, a bad sector is read as zeroes,
+a zeroed sector shows its block, 9 lets the sector E pass, 11 lets a lane past the last pass, 13 on idle records, 13 not judged,
+the larger sequence is newer, new is free where the map lacks it, count of stores made, count of all lanes, cut opening makes one store at least,
+cut opening makes all stores, mended to a zeroed sector, step: 10 before 14, start: 9 before 12, write: 10 before 9,
+write: 13 before 10""".replace("\n", " ").split(", ")
+
+# 13 never meets 9: a write in flight to a sector past the last is 16.
+SAME = {("start", 9, 13)}
+# Where 12 comes before 11 it must bear any lane.
+ANY_LANE = ("return handle.records[lane].busy", "return lane < 16 and handle.records[lane].busy")
+
+
+def swapped_orders():
+    """Each call's order with two neighbours exchanged, where that makes a difference."""
+    edits = {}
+    for call, order in calls.ORDER.items():
+        for i, (first, second) in enumerate(zip(order, order[1:])):
+            if (call, first, second) not in SAME:
+                wrong = order[:i] + (second, first) + order[i + 2 :]
+                edit = '"%s": %s' % (call, order), '"%s": %s' % (call, wrong)
+                edits["%s: %d before %d" % (call, second, first)] = edit + ANY_LANE
+    return edits
+
+
+def edited(name, *edit):
+    """The module of that name with an edit of its text: old and new in turn."""
+    text = (HERE / (name + ".py")).read_text()
+    for old, new in zip(edit[::2], edit[1::2], strict=True):
+        if text.count(old) != 1 or old == new:
+            raise SystemExit("mistakes: %r occurs %d times in %s.py" % (old, text.count(old), name))
+        text = text.replace(old, new)
+    module = types.ModuleType(name)
+    exec(compile(text, name + ".py", "exec"), module.__dict__)
+    return module
+
+
+def mistaken_library(name, edit):
+    """The model behind the library's interface, with that edit of one of its modules."""
+    if name == "calls":
+        return library.ModelLibrary(edited("calls", *edit), model)
+    wrong, running = edited("model", *edit), edited("calls")
+    running.model = wrong
+    return library.ModelLibrary(running, wrong)
+
+
+@contextlib.contextmanager
+def on_both_sides(name, edit):
+    """Puts the edit into the module that the model and its own library use."""
+    module = sys.modules[name]
+    kept = dict(module.__dict__)
+    module.__dict__.update(edited(name, *edit).__dict__)
+    try:
+        yield library.ModelLibrary()
+    finally:
+        module.__dict__.update(kept)
+
+
+def histories_needed(lib):
+    """How many histories it takes to find a fault, and the fault; a crash is one too."""
+    try:
+        _, last, fault = histories.run(lib, LIMIT)
+    except Exception as crash:
+        return "crash", repr(crash)
+    return (last, fault) if fault else (None, "not found")
+
+
+def main(words):
+    """Tries every mistake, or those whose names have one of these words."""
+    edits = [("calls", name, edit) for name, edit in {**CALL_MISTAKES, **swapped_orders()}.items()]
+    edits += [("model", name, edit) for name, edit in MODEL_MISTAKES.items()]
+    missed = ["no such mistake: " + name for name in set(PROMISED) - {name for _, name, _ in edits}]
+    for module, name, edit in edits:
+        if words and not any(word in name for word in words):
+            continue
+        began = time.process_time()
+        needed, fault = histories_needed(mistaken_library(module, edit))
+        alone = "-"
+        if name in PROMISED:
+            with on_both_sides(module, edit) as lib:
+                alone, fault = histories_needed(lib)
+        missed += [name] if None in (needed, alone) else []
+        print("%-40s %5s %5s %6.1f s  %s" % (name, needed, alone, time.process_time() - began, fault.split(", after")[0]), flush=True)
+    print("mistakes: %d, not found: %s" % (len(edits), ", ".join(missed) or "none"))
+    return 1 if missed else 0
+
+
+if __name__ == "__main__":
+    sys.exit(main(sys.argv[1:]))

@@ -1,0 +1,125 @@
+"""One arena and its latest handle, held twice: each call is made by the model and by the library, and all that was lent is compared."""
+import collections
+
+import calls
+import library
+import model
+
+
+class Difference(Exception):
+    """The library's outcome is not the model's, or the model's is not what the rules promise."""
+
+
+class Notes:
+    """The last calls made, how often each call gave each number, and how far past its data words a write was when the power was cut."""
+
+    def __init__(self):
+        self.log, self.seen, self.cuts = collections.deque(maxlen=8), collections.Counter(), collections.Counter()
+
+
+class Pair:
+    """The model's arena and handle, and the library's, which must stay equal to them."""
+
+    def __init__(self, lib, arena, rng, notes):
+        self.lib, self.rng, self.notes = lib, rng, notes
+        self.arena, self.lent = bytearray(arena), bytearray(arena)
+        self.hold(calls.no_handle())
+
+    def hold(self, handle):
+        """Makes this the handle of both sides."""
+        self.handle, self.lent_handle = handle, bytearray(library.handle_bytes(handle))
+
+    def aside(self, arena=None, handle=None):
+        """A pair of its own on a copy, where a call may be given what is not the latest."""
+        self.notes.log.append(("aside",))
+        copy = Pair(self.lib, self.arena if arena is None else arena, self.rng, self.notes)
+        copy.hold((handle or self.handle).copy())
+        return copy
+
+    def fail(self, what):
+        raise Difference("%s, after %s" % (what, "; ".join(" ".join(map(str, call)) for call in self.notes.log)))
+
+    def compare(self, call, expected, got, *buffers):
+        """Compares the answers (number, mended count), the arenas, the handles and each (expected, got) pair of buffers."""
+        self.notes.log.append(call)
+        self.notes.seen[call[0], expected[0]] += 1
+        if expected != got:
+            self.fail("answer %s, not %s" % (got, expected))
+        if self.arena != self.lent:
+            self.fail("the arena differs first at byte %d" % first_difference(self.arena, self.lent))
+        ours = library.handle_bytes(self.handle)
+        if ours != self.lent_handle:
+            self.fail("the handle differs first at byte %d" % first_difference(ours, self.lent_handle))
+        for ours, theirs in buffers:
+            if ours != theirs:
+                self.fail("a lent buffer differs first at byte %d" % first_difference(ours, theirs))
+
+    def make(self, size, sectors, lanes, first, second):
+        names = bytearray(first), bytearray(second)
+        number = model.make(self.arena, size, sectors, lanes, first, second)
+        got = self.lib.make(self.lent, size, sectors, lanes, *names)
+        self.compare(("make", size, sectors, lanes, len(first), len(second)), (number,), (got,), (first, names[0]), (second, names[1]))
+        return number
+
+    def open(self, room):
+        """Opens with a work buffer of that length; gives the number and the mended count."""
+        work = self.rng.randbytes(room)
+        ours, theirs = bytearray(work), bytearray(work)
+        opened = model.open_arena(self.arena, ours)
+        self.handle, self.lent_handle = calls.handle_of(opened, len(self.arena)), bytearray(self.rng.randbytes(library.HANDLE_BYTES))
+        got = self.lib.open(self.lent, theirs, self.lent_handle)
+        self.compare(("open", room), (opened.number, opened.mended), got, (ours, theirs))
+        return opened.number, opened.mended
+
+    def cut_open(self, room, k):
+        """As open, but with at most k stores, and no handle."""
+        work = self.rng.randbytes(room)
+        ours, theirs = bytearray(work), bytearray(work)
+        opened = model.cut_open(self.arena, ours, k)
+        got = self.lib.cut_open(self.lent, theirs, k)
+        self.compare(("cut_open", room, k), (opened.number, opened.mended), got, (ours, theirs))
+        return opened.number, opened.mended
+
+    def read(self, sector, length):
+        """Reads into a buffer of that length; gives the number and the buffer before and after."""
+        before = self.rng.randbytes(length)
+        ours, theirs = bytearray(before), bytearray(before)
+        number = calls.read(self.arena, self.handle, sector, ours)
+        got = self.lib.read(self.lent, self.lent_handle, sector, theirs)
+        self.compare(("read", sector, length), (number,), (got,), (ours, theirs))
+        return number, before, ours
+
+    def start(self, lane, sector):
+        number = calls.start(self.arena, self.handle, lane, sector)
+        got = self.lib.start(self.lent, self.lent_handle, lane, sector)
+        self.compare(("start", lane, sector), (number,), (got,))
+        return number
+
+    def step(self, lane, buffer):
+        theirs = bytearray(buffer)
+        number = calls.step(self.arena, self.handle, lane, buffer)
+        got = self.lib.step(self.lent, self.lent_handle, lane, theirs)
+        self.compare(("step", lane, len(buffer)), (number,), (got,), (buffer, theirs))
+        return number
+
+    def write(self, lane, sector, buffer):
+        theirs = bytearray(buffer)
+        number = calls.write(self.arena, self.handle, lane, sector, buffer)
+        got = self.lib.write(self.lent, self.lent_handle, lane, sector, theirs)
+        self.compare(("write", lane, sector, len(buffer)), (number,), (got,), (buffer, theirs))
+        return number
+
+    def put(self, stores):
+        """Makes stores in both arenas without a call, as a cut whole write or a foreign hand leaves them."""
+        for offset, value in stores:
+            calls.put(self.arena, offset, value)
+            calls.put(self.lent, offset, value)
+
+    def drop(self):
+        """Loses the handle."""
+        self.notes.log.append(("cut",))
+        self.hold(calls.no_handle())
+
+
+def first_difference(ours, theirs):
+    return next(i for i, (a, b) in enumerate(zip(ours, theirs)) if a != b)
