@@ -1,0 +1,26 @@
+-- `claims::host` ensures the claim about the library's calls, which is proved in `Fits`, `Same` and `Shown`.
+use Rattle.btt.proofs.Fits.{opened-stands}
+use Rattle.btt.proofs.Same.{read-same, start-same, step-same, write-same}
+use Rattle.btt.proofs.Shown.{info-shown, read-left, start-left, step-left, write-left, record-only, lane-shown, place-told}
+use Rattle.btt.proofs.claims.host.Statement.{statement}
+use Rattle.btt.proofs.claims.host.Tie as tie
+
+returns : tie.Need-returns
+returns c = record {
+  info-block = info-shown;
+  opened = opened-stands;
+  read = read-same;
+  start = λ a b h l s t. start-same a b h l t s;
+  step = λ a b h l buffer t. step-same a b h l t buffer;
+  write = λ a b h l s buffer t. write-same a b h l t s buffer;
+  read-refused = read-left;
+  start-refused = start-left;
+  step-refused = step-left;
+  write-refused = write-left;
+  kept = record-only;
+  lane = lane-shown;
+  next-store = place-told;
+}
+
+pub host-spec : {M : Type 1} → statement M
+host-spec = tie.close (tie.spec returns)

@@ -1,0 +1,30 @@
+-- What a call gave its host, in the form of the call's definition: the number returned, and the lent bytes and numbers at exit.
+use mathlib.Core.List.{List}
+use Prim.Native.Nat.{ℕ}
+use Rattle.machine.specs.Handle.{noHandle}
+use Rattle.machine.specs.Making.{Made}
+use Rattle.machine.specs.Opening.{Opening}
+use Rattle.machine.specs.Reading.{Read}
+use Rattle.btt.specs.Calls.{HostOpening, HostOutcome, HostLane, HostNext}
+
+abbrev pub made : ℕ → List ℕ → Made
+made n arena = record { number = n; arena = arena }
+
+abbrev pub opened : ℕ → ℕ → List ℕ → List ℕ → List ℕ → HostOpening
+opened n mended arena handle work = record { number = n; mended = mended; arena = arena; handle = handle; work = work }
+
+-- a cut opening gives no handle
+abbrev pub cut : ℕ → ℕ → List ℕ → List ℕ → Opening
+cut n mended arena work = record { number = n; mended = mended; arena = arena; handle = noHandle; work = work }
+
+abbrev pub read : ℕ → List ℕ → Read
+read n buffer = record { number = n; buffer = buffer }
+
+abbrev pub outcome : ℕ → List ℕ → List ℕ → HostOutcome
+outcome n arena handle = record { number = n; arena = arena; handle = handle }
+
+abbrev pub lane : ℕ → List ℕ → HostLane
+lane n out = record { number = n; out = out }
+
+abbrev pub next : ℕ → ℕ → HostNext
+next n offset = record { number = n; offset = offset }

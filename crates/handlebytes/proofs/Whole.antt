@@ -1,0 +1,195 @@
+-- The bytes of a whole handle stand for it: its words are read back one by one, and its records one after the other.
+use mathlib.Core.Path.{_≡_, refl, sym, ap, _∙_}
+use mathlib.Core.Logic.{inl, inr, ⊎-elim}
+use mathlib.Core.Bool.{true, cond, _||_}
+use mathlib.Core.List.{List, _++_}
+use Prim.Native.Nat.{ℕ, zero, suc, _+_, _*_, _/_, _%_, _≤_, _<_}
+use native.Mathlib.Omega.{arith}
+use native.Mathlib.Nat.{div-add-mod'}
+use native.Mathlib.Numerals.{add-one}
+use native.Mathlib.Decide.{ℕ-discrete}
+use lib.Dec.{leb}
+use lib.ListN.{length, getD, replicate, length-replicate}
+use Rattle.words.specs.Word.{word, long, putWords, Bytes}
+use Rattle.words.proofs.Runs.{length-putWords, putWords-append, putWords-bytes, word-putWords-in, word-putWords-out}
+use Rattle.format.specs.Tests.{every}
+use Rattle.format.proofs.Below.{Below, below-replicate}
+use Rattle.format.proofs.Tests.{every-intro}
+use Rattle.machine.specs.Handle.{noHandle, laneAt}
+use Rattle.machine.specs.declared.lane.Lane.{Lane}
+use Rattle.machine.specs.declared.handle.Handle.{Handle}
+use Rattle.handlebytes.specs.Bytes.{
+  recordAt,
+  decodeRecord,
+  decodeRecords,
+  decodeFigures,
+  decodeHandle,
+  busyOk,
+  recordsWords,
+  startWords,
+  figureWords,
+  handleWords,
+  putRecord,
+  encodeHandle,
+}
+use Rattle.handlebytes.specs.Stands.{HandleFits, Stands}
+use Rattle.handlebytes.proofs.Records.{stored-more}
+use Rattle.handlebytes.proofs.Round.{
+  limit,
+  each-below,
+  first-word,
+  record-same,
+  other-word,
+  record-other,
+  at,
+  decoded-is,
+  apart,
+  or-right,
+  flag-small,
+}
+
+module _ (h : Handle) (f : HandleFits h) where
+  words : List ℕ
+  words = startWords (h .length) (h .figures) ++ figureWords (h .figures)
+
+  words-below : Below limit words
+  unfolding words startWords figureWords
+  words-below =
+      let g = f .figures in
+      each-below words (
+        omega arith,
+        (
+          omega (arith, f .total),
+          (
+            omega arith,
+            (
+              omega (arith, g .dataoff),
+              (
+                omega arith,
+                (
+                  omega (arith, g .mapoff),
+                  (
+                    omega arith,
+                    (
+                      omega (arith, g .flogoff),
+                      (
+                        omega arith,
+                        (
+                          omega (arith, g .copyoff),
+                          (g .size, (g .sectors, (g .internal, (g .blocks, (g .lanes, (omega arith, tt)))))),
+                        ),
+                      ),
+                    ),
+                  ),
+                ),
+              ),
+            ),
+          ),
+        ),
+      )
+
+  head : List ℕ
+  head = putWords (replicate 512 0) 0 words
+
+  head-length : length head ≡ 512
+  unfolding head
+  head-length = length-putWords words (replicate 512 0) 0 ∙ length-replicate {A = ℕ} 512 0
+
+  head-word : (k : ℕ) → k < 16 → word head k ≡ getD words k 0
+  unfolding head words startWords figureWords
+  head-word k u =
+      let e : 0 + k ≡ k = omega arith in
+      rw e at (word-putWords-in words (replicate 512 0) 0 k (rw length-replicate (omega arith)) words-below u)
+
+  -- the first n records stored
+  filled : ℕ → List ℕ
+  filled n = putWords head 16 (recordsWords (h .lanes) n)
+
+  filled-length : (n : ℕ) → length (filled n) ≡ 512
+  unfolding filled
+  filled-length n = length-putWords (recordsWords (h .lanes) n) head 16 ∙ head-length
+
+  filled-more : (n : ℕ) → filled (suc n) ≡ putRecord (filled n) (recordAt n) (laneAt (h .lanes) n)
+  unfolding filled
+  filled-more n = ap (λ (k : ℕ). putWords head 16 (recordsWords (h .lanes) k)) (sym (add-one n)) ∙ sym (stored-more head (h .lanes) n)
+
+  -- a record that is stored, and its busy word
+  abbrev Stored : List ℕ → ℕ → Type 0
+  Stored b l = (at b l ≡ laneAt (h .lanes) l) × (word b (recordAt l) ≡ cond (laneAt (h .lanes) l .busy) 1 0)
+
+  filled-at : (n : ℕ) → n ≤ 16 → (l : ℕ) → l < n → Stored (filled n) l
+  filled-at zero v l u = absurd (omega arith)
+  filled-at (suc n) v l u = rw (filled-more n) (go (ℕ-discrete l n) (λ w. filled-at n (omega arith) l w))
+    where
+      r : Lane
+      r = laneAt (h .lanes) n
+
+      room : 4 * recordAt n + 28 ≤ length (filled n)
+      room = rw (filled-length n) (omega arith)
+
+      go : Dec (l ≡ n) → (l < n → Stored (filled n) l) → Stored (putRecord (filled n) (recordAt n) r) l
+      go (yes e) ih =
+          let g = f .lanes n (omega arith) in
+          rw e (record-same (filled n) (recordAt n) r room g, first-word (filled n) (recordAt n) r room g)
+      go (no d) ih =
+          let p = ih (omega arith) in
+          let q = apart n l d in (
+            record-other (filled n) (recordAt n) r (recordAt l) q ∙ p .0,
+            other-word (filled n) (recordAt n) r (recordAt l) (⊎-elim (λ x. inl (omega arith)) (λ x. inr x) q) ∙ p .1,
+          )
+
+  encode-filled : encodeHandle h ≡ filled 16
+  unfolding encodeHandle handleWords filled head words startWords figureWords
+  encode-filled = putWords-append words (recordsWords (h .lanes) 16) (replicate 512 0) 0
+
+  filled-head : (k : ℕ) → k < 16 → word (filled 16) k ≡ getD words k 0
+  unfolding filled
+  filled-head k u = word-putWords-out (recordsWords (h .lanes) 16) head 16 k (inl u) ∙ head-word k u
+
+  filled-long : (i n : ℕ) → i + 1 < 16 → getD words i 0 ≡ n % limit → getD words (i + 1) 0 ≡ n / limit → long (filled 16) i ≡ n
+  unfolding long
+  filled-long i n u p q =
+      rw (filled-head i (omega arith), filled-head (i + 1) u, p, q) (omega (arith, div-add-mod' n 4294967296))
+
+  filled-total : long (filled 16) 0 ≡ h .length
+  unfolding words startWords figureWords
+  filled-total = filled-long 0 (h .length) (omega arith) refl refl
+
+  filled-figures : decodeFigures (filled 16) ≡ h .figures
+  unfolding decodeFigures words startWords figureWords
+  filled-figures =
+      rw (
+        filled-head 10 (omega arith),
+        filled-head 11 (omega arith),
+        filled-head 12 (omega arith),
+        filled-head 13 (omega arith),
+        filled-head 14 (omega arith),
+        filled-long 2 (h .figures .dataoff) (omega arith) refl refl,
+        filled-long 4 (h .figures .mapoff) (omega arith) refl refl,
+        filled-long 6 (h .figures .flogoff) (omega arith) refl refl,
+        filled-long 8 (h .figures .copyoff) (omega arith) refl refl,
+      )
+
+  filled-busy : (l : ℕ) → l < 16 → (leb (word (filled 16) 14) l || leb (word (filled 16) (recordAt l)) 1) ≡ true
+  filled-busy l u =
+      rw (filled-at 16 (omega arith) l u .1, flag-small (laneAt (h .lanes) l .busy)) (or-right (leb (word (filled 16) 14) l) true refl)
+
+  filled-small : (j : ℕ) → getD (filled 16) j 0 < 256
+  unfolding filled head
+  filled-small =
+      let z : Bytes (replicate 512 0) = record { words = refl; small = below-replicate 256 512 0 (omega arith) } in
+      putWords-bytes (recordsWords (h .lanes) 16) _ 16 (putWords-bytes words (replicate 512 0) 0 z) .small
+
+  pub encoded-stands : Stands (encodeHandle h) h
+  unfolding busyOk decodeHandle
+  encoded-stands = rw encode-filled (record {
+    size = filled-length 16;
+    small = filled-small;
+    busy = every-intro 16 (λ i. leb (word (filled 16) 14) i || leb (word (filled 16) (recordAt i)) 1) filled-busy;
+    is =
+        rw (filled-total, filled-figures, decoded-is (filled 16) 16 (h .lanes) (f .records) (λ l u. filled-at 16 (omega arith) l u .0));
+  })
+
+pub zeroes-stand : Stands (replicate 512 0) noHandle
+unfolding busyOk decodeHandle decodeFigures decodeRecords decodeRecord long word every
+zeroes-stand = record { size = refl; small = below-replicate 256 512 0 (omega arith); busy = refl; is = refl }

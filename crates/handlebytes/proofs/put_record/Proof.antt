@@ -1,0 +1,89 @@
+-- `put_record` meets its contract: seven words one after the other.
+use Rattle.handlebytes.specs.Bytes.{recordWords}
+use Rattle.handlebytes.proofs.Records.{seven}
+use borrow.Author.Needs.{needs}
+use Rattle.handlebytes.proofs.put_record.Statement.{statement}
+use Rattle.handlebytes.proofs.put_record.Tie as tie
+
+flag-requires : tie.Need-flag-requires
+flag-requires c κs = search needs
+
+put-word-requires : tie.Need-put-word-requires
+put-word-requires c κs = search needs
+
+add-put-word : tie.Need-add-put-word
+add-put-word c = search needs
+
+put-word-requires-2 : tie.Need-put-word-requires-2
+put-word-requires-2 c κs = search needs
+
+add-put-word-2 : tie.Need-add-put-word-2
+add-put-word-2 c = search needs
+
+put-word-requires-3 : tie.Need-put-word-requires-3
+put-word-requires-3 c κs = search needs
+
+add-put-word-3 : tie.Need-add-put-word-3
+add-put-word-3 c = search needs
+
+put-word-requires-4 : tie.Need-put-word-requires-4
+put-word-requires-4 c κs = search needs
+
+add-put-word-4 : tie.Need-add-put-word-4
+add-put-word-4 c = search needs
+
+put-word-requires-5 : tie.Need-put-word-requires-5
+put-word-requires-5 c κs = search needs
+
+add-put-word-5 : tie.Need-add-put-word-5
+add-put-word-5 c = search needs
+
+put-word-requires-6 : tie.Need-put-word-requires-6
+put-word-requires-6 c κs = search needs
+
+add-put-word-6 : tie.Need-add-put-word-6
+add-put-word-6 c = search needs
+
+put-word-requires-7 : tie.Need-put-word-requires-7
+put-word-requires-7 c κs = search needs
+
+same-length : tie.Need-same-length
+same-length c = search needs
+
+returns : tie.Need-returns
+unfolding recordWords
+returns c =
+    let x = c .before .before .before .before .before .before .before .before .before .before in
+    let y = x .before .before .before .before .before .before .before .before .before .before .before .before in
+    rw (
+      c .before .before .put-word7 .ensures,
+      c .before .before .before .before .before .before .put-word6 .ensures,
+      x .put-word5 .ensures,
+      x .before .before .before .before .put-word4 .ensures,
+      x .before .before .before .before .before .before .before .before .put-word3 .ensures,
+      y .put-word2 .ensures,
+      y .before .before .before .before .put-word .ensures,
+      y .before .before .before .before .before .flag .ensures,
+    )
+    (seven _ _ _ _ _ _ _ _ _)
+
+pub put-record-spec : {M : Type 1} → statement M
+put-record-spec =
+    tie.close
+    (tie.spec
+    flag-requires
+    put-word-requires
+    add-put-word
+    put-word-requires-2
+    add-put-word-2
+    put-word-requires-3
+    add-put-word-3
+    put-word-requires-4
+    add-put-word-4
+    put-word-requires-5
+    add-put-word-5
+    put-word-requires-6
+    add-put-word-6
+    put-word-requires-7
+    same-length
+    returns)

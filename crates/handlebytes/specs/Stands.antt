@@ -1,0 +1,65 @@
+-- Bytes that stand for a handle, and the claim that storing and decoding agree.
+use mathlib.Core.Path.{_≡_}
+use mathlib.Core.Bool.{true}
+use mathlib.Core.List.{List}
+use Prim.Native.Nat.{ℕ, _<_}
+use lib.ListN.{length, replicate}
+use Rattle.layout.specs.Figures.{maxLanes}
+use Rattle.layout.specs.declared.Figures.{Figures}
+use Rattle.machine.specs.Handle.{noHandle, laneAt}
+use Rattle.machine.specs.Valid.{Small}
+use Rattle.machine.specs.Writing.{withLane}
+use Rattle.machine.specs.declared.lane.Lane.{Lane}
+use Rattle.machine.specs.declared.handle.Handle.{Handle}
+use Rattle.handlebytes.specs.Bytes.{handleBytes, recordAt, decodeHandle, busyOk, putRecord, encodeHandle}
+
+-- numbers of 32 and of 64 bits
+abbrev pub Fits32 : ℕ → Type 0
+Fits32 n = n < 4294967296
+
+abbrev pub Fits64 : ℕ → Type 0
+Fits64 n = n < 18446744073709551616
+
+pub record RecordFits (r : Lane) : Type 0 where
+  pub block : Fits32 (r .block .0)
+  pub half : Fits32 (r .half)
+  pub sequence : Fits32 (r .sequence .0)
+  pub sector : Fits32 (r .sector .0)
+  pub old : Fits32 (r .old .0)
+  pub made : Fits32 (r .made)
+
+pub record FiguresFit (f : Figures) : Type 0 where
+  pub size : Fits32 (f .size)
+  pub sectors : Fits32 (f .sectors)
+  pub internal : Fits32 (f .internal)
+  pub blocks : Fits32 (f .blocks)
+  pub lanes : Fits32 (f .lanes)
+  pub dataoff : Fits64 (f .dataoff)
+  pub mapoff : Fits64 (f .mapoff)
+  pub flogoff : Fits64 (f .flogoff)
+  pub copyoff : Fits64 (f .copyoff)
+
+-- what the type of a handle gives of its numbers
+pub record HandleFits (h : Handle) : Type 0 where
+  pub total : Fits64 (h .length)
+  pub figures : FiguresFit (h .figures)
+  pub records : length (h .lanes) ≡ maxLanes
+  pub lanes : (l : ℕ) → l < maxLanes → RecordFits (laneAt (h .lanes) l)
+
+-- 512 bytes whose busy words are in order, and that decode to the handle
+pub record Stands (b : List ℕ) (h : Handle) : Type 0 where
+  pub size : length b ≡ handleBytes
+  pub small : Small b
+  pub busy : busyOk b ≡ true
+  pub is : decodeHandle b ≡ h
+
+pub record BytesClaim : Type 0 where
+  -- a handle's bytes stand for it
+  pub encoded : (h : Handle) → HandleFits h → Stands (encodeHandle h) h
+  -- so do those that a refused opening leaves
+  pub zeroes : Stands (replicate handleBytes 0) noHandle
+  -- a record stored in its place changes that record and nothing else
+  pub stored : (b : List ℕ) (h : Handle) (l : ℕ) (r : Lane) → Stands b h → l < maxLanes → RecordFits r
+      → Stands (putRecord b (recordAt l) r) (withLane h l r)
+  -- what bytes stand for fits
+  pub fits : (b : List ℕ) (h : Handle) → Stands b h → HandleFits h

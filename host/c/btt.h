@@ -1,0 +1,160 @@
+/*
+ * One arena of a block translation table (BTT) in memory that the caller lends: the C interface of libbtt.a.
+ *
+ * What the caller keeps, in every call:
+ *   - a pointer is valid for the length that is given after it; a null pointer with length 0 is an empty slice;
+ *   - the slices, the handle and the numbers that one call is given lie apart: no two of them share a byte;
+ *   - the arena's address is a multiple of 4, so that each step is one aligned store;
+ *   - no other thread changes what a call was given until the call is back, and none reads what the call may change.
+ * Nothing else is asked: every input is answered, by 0 or by a number of enum btt_answer, and the first that applies in the order
+ * that the call's comment gives is the answer. The library keeps nothing between calls and needs only memcpy, memmove and memset.
+ */
+#ifndef BTT_H
+#define BTT_H
+
+#include <stddef.h>
+#include <stdint.h>
+
+#ifdef __cplusplus
+extern "C" {
+#endif
+
+/* The answers. */
+enum btt_answer {
+    BTT_DONE = 0,               /* accepted */
+    BTT_WRONG_LENGTH = 1,       /* the arena's length is not allowed, or, in making, not the figure worked out */
+    BTT_NO_INFO_BLOCK = 2,      /* neither info block is sound */
+    BTT_FORBIDDEN_FIGURE = 3,   /* a figure of the info block is forbidden, flags apart */
+    BTT_FLAGS_SET = 4,          /* flags are not 0 */
+    BTT_SHORT_WORK_BUFFER = 5,  /* the work buffer is shorter than the number of blocks */
+    BTT_LOST_LANE = 6,          /* a lane has no newer half, or one that is out of range */
+    BTT_BAD_MAP_WORD = 7,       /* a map word names a block past the last */
+    BTT_NOT_VALID = 8,          /* mapped and free blocks are not every block once */
+    BTT_NO_SUCH_SECTOR = 9,     /* the sector is not below the number of sectors */
+    BTT_WRONG_BUFFER = 10,      /* the sector buffer is not a sector long, or an identifier not 16 bytes */
+    BTT_NO_SUCH_LANE = 11,      /* the lane is not below the number of lanes */
+    BTT_LANE_BUSY = 12,         /* the lane has a write in flight */
+    BTT_SECTOR_BUSY = 13,       /* another lane has that sector in flight */
+    BTT_LANE_IDLE = 14,         /* the lane has no write in flight */
+    BTT_BAD_SECTOR = 15,        /* the sector read is marked bad */
+    BTT_BAD_HANDLE = 16         /* the handle breaks a figure, has a record out of range, or does not match the arena's length */
+};
+
+enum {
+    BTT_MIN_ARENA = 20480,      /* an arena's length is a multiple of 4,096 from here */
+    BTT_MAX_ARENA = 16777216,   /* to here */
+    BTT_INFO_SIZE = 4096,       /* bytes of an info block: the first and the last of an arena */
+    BTT_ID_SIZE = 16,           /* bytes of an identifier */
+    BTT_MAX_LANES = 16,
+    BTT_LANE_SIZE = 28,         /* bytes of a struct btt_lane */
+    BTT_HANDLE_SIZE = 512       /* bytes of a struct btt_handle */
+};
+
+/* A lane's record. */
+struct btt_lane {
+    uint32_t busy;              /* 1 with a write in flight, else 0 */
+    uint32_t block;             /* the free block; of a write in flight, its new block */
+    uint32_t half;              /* the half of the lane's flog pair that is written next: 0 or 1 */
+    uint32_t sequence;          /* the sequence number that is written next: 1, 2 or 3 */
+    uint32_t sector;            /* of a write in flight: its sector, */
+    uint32_t old;               /* the block that the map had for it, */
+    uint32_t made;              /* and how many of its size / 4 + 5 stores are made */
+};
+
+/*
+ * What opening gives, and every later call judges anew: plain data, little-endian, with no padding, and no secret. It may be copied;
+ * a copy that a later call has outdated is still answered, but may spoil the arena. Only starts, steps and whole writes change it, and
+ * of it only the record of their lane, and only if they are accepted.
+ */
+struct btt_handle {
+    uint64_t length;                        /* the arena's length in bytes */
+    uint64_t data, map, flog, copy;         /* the byte offsets at which its parts start */
+    uint32_t size;                          /* bytes of a sector: 512 or 4,096 */
+    uint32_t sectors;
+    uint32_t internal;                      /* bytes of a block: those of a sector */
+    uint32_t blocks;                        /* sectors + lanes */
+    uint32_t lanes;                         /* 1 to 16 */
+    uint32_t reserved;                      /* opening writes 0; not judged, and not changed by any other call */
+    struct btt_lane lane[BTT_MAX_LANES];    /* those past the lanes are 0 after opening; not judged, and not changed by any other call */
+};
+
+#if defined(__cplusplus) && __cplusplus >= 201103L
+static_assert(sizeof(struct btt_lane) == BTT_LANE_SIZE, "a lane's record is 28 bytes");
+static_assert(sizeof(struct btt_handle) == BTT_HANDLE_SIZE, "a handle is 512 bytes");
+#elif defined(__STDC_VERSION__) && __STDC_VERSION__ >= 201112L
+_Static_assert(sizeof(struct btt_lane) == BTT_LANE_SIZE, "a lane's record is 28 bytes");
+_Static_assert(sizeof(struct btt_handle) == BTT_HANDLE_SIZE, "a handle is 512 bytes");
+#else
+typedef char btt_lane_is_28_bytes[sizeof(struct btt_lane) == BTT_LANE_SIZE ? 1 : -1];
+typedef char btt_handle_is_512_bytes[sizeof(struct btt_handle) == BTT_HANDLE_SIZE ? 1 : -1];
+#endif
+
+/*
+ * Makes an arena of that many sectors of that size, with so many lanes, in a slice of just the length that this works out: both info
+ * blocks and every byte after the data blocks are written, the data blocks are not touched. A cut while making promises nothing.
+ * Answers 3 (size, sectors and lanes), 1, 10; a refusal changes nothing. Making gives no handle: open the arena.
+ */
+uint32_t btt_make(uint8_t *arena, size_t arena_length, uint32_t size, uint32_t sectors, uint32_t lanes, const uint8_t *first_id,
+                  size_t first_id_length, const uint8_t *second_id, size_t second_id_length);
+
+/*
+ * Where the info block that counts is: the byte offset and the length of the first block if it is sound, else of the copy if that is.
+ * Both are 0 if neither is sound or the arena's length is not allowed.
+ */
+void btt_info_block(const uint8_t *arena, size_t arena_length, uint64_t *offset, uint64_t *length);
+
+/*
+ * Opens an arena: all is judged before anything is stored, then each pending lane is mended by one store to the map.
+ * The work buffer needs a byte for each block. On 0, 6, 7 and 8 as many of its bytes as there are blocks are 0 afterwards, the rest and on
+ * 1 to 5 all of it is unchanged. *mended is the number of lanes that were pending.
+ * Answers 1 to 8 in order; a refusal leaves the arena, makes *mended 0 and all of *handle zeroes.
+ */
+uint32_t btt_open(uint8_t *arena, size_t arena_length, uint8_t *work, size_t work_length, struct btt_handle *handle, uint32_t *mended);
+
+/*
+ * An opening that stops after its first k stores, or makes all if there are fewer, as a power cut would stop it. It answers, counts and
+ * leaves the work buffer as btt_open does, and gives no handle.
+ */
+uint32_t btt_cut_open(uint8_t *arena, size_t arena_length, uint8_t *work, size_t work_length, uint32_t k, uint32_t *mended);
+
+/*
+ * Reads a sector into a buffer of a sector's length: what the last finished write stored, or zeroes.
+ * Answers 16, 9, 10, 7 (of that sector's map word), 15; a refusal leaves the buffer.
+ */
+uint32_t btt_read(const uint8_t *arena, size_t arena_length, const struct btt_handle *handle, uint32_t sector, uint8_t *buffer,
+                  size_t buffer_length);
+
+/*
+ * Starts a write to a sector on an idle lane. The arena is not changed; the lane's record remembers the write.
+ * Answers 16, 11, 12, 9, 13, 7; a refusal changes nothing.
+ */
+uint32_t btt_start(const uint8_t *arena, size_t arena_length, struct btt_handle *handle, uint32_t lane, uint32_t sector);
+
+/*
+ * Makes the next store of the lane's write, one aligned word. After size / 4 + 5 steps the write is done and the lane idle. Every step
+ * of a write is given the same sector buffer. Answers 16, 11, 14, 10; a refusal changes nothing.
+ */
+uint32_t btt_step(uint8_t *arena, size_t arena_length, struct btt_handle *handle, uint32_t lane, const uint8_t *buffer,
+                  size_t buffer_length);
+
+/*
+ * Makes a whole write, a start and all its steps, in one call. It is refused before any store.
+ * Answers 16, 11, 12, 9, 10, 13, 7; a refusal changes nothing.
+ */
+uint32_t btt_write(uint8_t *arena, size_t arena_length, struct btt_handle *handle, uint32_t lane, uint32_t sector, const uint8_t *buffer,
+                   size_t buffer_length);
+
+/* A lane's record. Answers 16, 11; a refusal leaves *record. */
+uint32_t btt_lane(const uint8_t *arena, size_t arena_length, const struct btt_handle *handle, uint32_t lane, struct btt_lane *record);
+
+/*
+ * The byte offset of the one word that the lane's next step will store, so that a host can flush just that line before the step after it.
+ * Answers 16, 11, 14; a refusal leaves *offset.
+ */
+uint32_t btt_next_store(const uint8_t *arena, size_t arena_length, const struct btt_handle *handle, uint32_t lane, uint64_t *offset);
+
+#ifdef __cplusplus
+}
+#endif
+
+#endif
