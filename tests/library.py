@@ -57,13 +57,24 @@ def listed(crate):
     return any(line.split(":")[0].strip() == crate for line in lines if not line.startswith("#"))
 
 
+def must(*command):
+    """Runs a command at the top of the repository; it has to end with 0."""
+    done = subprocess.run([str(word) for word in command], cwd=TOP, capture_output=True, text=True)
+    if done.returncode:
+        raise SystemExit("tests: %s failed\n%s%s" % (" ".join(str(word) for word in command[:3]), done.stdout, done.stderr))
+
+
+def archive():
+    """The crate's static library, made anew if it is missing or older than a source."""
+    sources = list((TOP / "crates").glob("*/src/**/*.rt"))
+    if not ARCHIVE.exists() or any(source.stat().st_mtime > ARCHIVE.stat().st_mtime for source in sources):
+        must("rt", "staticlib", "btt")
+    return ARCHIVE
+
+
 def built():
-    """The library, its shared object made anew from the crate's static library."""
-    whole = ["-Wl,--whole-archive", str(ARCHIVE), "-Wl,--no-whole-archive"]
-    for command in (["rt", "staticlib", "btt"], ["gcc", "-shared", "-o", str(SHARED), *whole]):
-        done = subprocess.run(command, cwd=TOP, capture_output=True, text=True)
-        if done.returncode:
-            raise SystemExit("tests: %s failed\n%s%s" % (" ".join(command[:3]), done.stdout, done.stderr))
+    """The library, its shared object made anew from the static library."""
+    must("gcc", "-shared", "-o", SHARED, "-Wl,--whole-archive", archive(), "-Wl,--no-whole-archive")
     return Library(SHARED)
 
 

@@ -153,6 +153,32 @@ uint32_t btt_lane(const uint8_t *arena, size_t arena_length, const struct btt_ha
  */
 uint32_t btt_next_store(const uint8_t *arena, size_t arena_length, const struct btt_handle *handle, uint32_t lane, uint64_t *offset);
 
+/* An answer in words, for messages. */
+static inline const char *btt_answer_text(uint32_t answer)
+{
+    static const char *const text[] = {
+        "done",
+        "the arena's length is not allowed, or not the one that making works out",
+        "neither info block is sound",
+        "a figure is forbidden",
+        "flags are set",
+        "the work buffer is shorter than the number of blocks",
+        "a lane has no newer flog half, or one out of range",
+        "a map word names a block past the last",
+        "mapped and free blocks are not every block once",
+        "no such sector",
+        "the buffer is not a sector long, or an identifier not 16 bytes",
+        "no such lane",
+        "the lane has a write in flight",
+        "another lane has that sector in flight",
+        "the lane has no write in flight",
+        "the sector is marked bad",
+        "the handle does not fit the arena, or has a record out of range"
+    };
+
+    return answer < sizeof text / sizeof text[0] ? text[answer] : "not an answer";
+}
+
 #ifdef __cplusplus
 }
 #endif

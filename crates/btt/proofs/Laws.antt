@@ -17,7 +17,8 @@ use Rattle.writing.specs.declared.Stepped.{Stepped}
 use Rattle.arena.specs.Calls.{openGave}
 use Rattle.arena.specs.declared.open.Opened.{Opened}
 use Rattle.handlebytes.specs.Bytes.{decodeHandle, busyOk, handleWords, encodeHandle, putRecord}
-use Rattle.btt.specs.Calls.{bttOpenOf, bttReadOf, bttOf, bttStartOf, bttStepOf, bttWriteOf, putBack, laneNumber, bttLaneOf, nextNumber, nextOffset, bttNextStoreOf}
+use Rattle.btt.specs.Calls.{bttOpenOf, bttReadOf, bttOf, bttStartOf, bttStepOf, bttWriteOf, putBack}
+use Rattle.btt.specs.Calls.{laneNumber, bttLaneOf, nextNumber, nextOffset, bttNextStoreOf}
 use Rattle.btt.specs.Gave as gave
 use Rattle.btt.proofs.Rules.{two-passed, few}
 

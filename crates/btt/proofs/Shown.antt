@@ -28,7 +28,8 @@ use Rattle.machine.proofs.Rows.{passed}
 use Rattle.handlebytes.specs.Bytes.{recordAt, decodeHandle, busyOk, recordWords}
 use Rattle.handlebytes.specs.Stands.{Stands}
 use Rattle.handlebytes.proofs.Round.{record-again}
-use Rattle.btt.specs.Calls.{bttInfoBlockOf, bttReadOf, bttOf, bttStartOf, bttStepOf, bttWriteOf, laneNumber, bttLaneOf, nextNumber, nextOffset, bttNextStoreOf}
+use Rattle.btt.specs.Calls.{bttInfoBlockOf, bttReadOf, bttOf, bttStartOf, bttStepOf}
+use Rattle.btt.specs.Calls.{bttWriteOf, laneNumber, bttLaneOf, nextNumber, nextOffset, bttNextStoreOf}
 use Rattle.btt.specs.Host.{Untouched, OnlyAt, ToldPlace}
 use Rattle.btt.proofs.Rules.{two-passed, few, lane-passed}
 

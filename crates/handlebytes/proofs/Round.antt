@@ -218,7 +218,8 @@ module _ (b : List ℕ) (h : Handle) (l : ℕ) (r : Lane) (s : Stands b h) (u : 
   after-busy m v = go (ℕ-discrete m l)
     where
       go : Dec (m ≡ l) → (leb (word (putRecord b (recordAt l) r) 14) m || leb (word (putRecord b (recordAt l) r) (recordAt m)) 1) ≡ true
-      go (yes e) = rw (e, first-word b (recordAt l) r room f, flag-small (r .busy)) (or-right (leb (word (putRecord b (recordAt l) r) 14) l) true refl)
+      go (yes e) =
+          rw (e, first-word b (recordAt l) r room f, flag-small (r .busy)) (or-right (leb (word (putRecord b (recordAt l) r) 14) l) true refl)
       go (no d) =
           let w : word (putRecord b (recordAt l) r) (recordAt m) ≡ word b (recordAt m) =
           other-word b (recordAt l) r (recordAt m) (⊎-elim (λ x. inl (omega arith)) (λ x. inr x) (apart l m d)) in

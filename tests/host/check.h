@@ -1,0 +1,98 @@
+/* What every C test uses: checks that say where they failed, little-endian words, patterns and the checksum of an info block. */
+#ifndef CHECK_H
+#define CHECK_H
+
+#include <stdint.h>
+#include <stdio.h>
+#include <stdlib.h>
+#include <string.h>
+
+#include "btt.h"
+
+static unsigned long checks;
+
+static void failed(const char *file, int line, const char *what)
+{
+    fprintf(stderr, "%s:%d: %s\n", file, line, what);
+    exit(1);
+}
+
+#define CHECK(what) ((what) ? (void)checks++ : failed(__FILE__, __LINE__, #what))
+
+/* The number of elements of an array. */
+#define COUNT(array) (sizeof(array) / sizeof(array)[0])
+
+static inline void put_bytes(uint8_t *at, unsigned width, uint64_t value)
+{
+    for (unsigned i = 0; i < width; i++) {
+        at[i] = (uint8_t)(value >> 8 * i);
+    }
+}
+
+static inline uint64_t get_bytes(const uint8_t *at, unsigned width)
+{
+    uint64_t value = 0;
+
+    for (unsigned i = 0; i < width; i++) {
+        value |= (uint64_t)at[i] << 8 * i;
+    }
+    return value;
+}
+
+static inline void put32(uint8_t *at, uint32_t value)
+{
+    put_bytes(at, 4, value);
+}
+
+static inline uint32_t get32(const uint8_t *at)
+{
+    return (uint32_t)get_bytes(at, 4);
+}
+
+/* Bytes of their own for each seed. */
+static inline void pattern(uint8_t *at, size_t length, uint32_t seed)
+{
+    uint32_t x = seed * 2654435761u + 1;
+
+    for (size_t i = 0; i < length; i++) {
+        x = x * 1664525u + 1013904223u;
+        at[i] = (uint8_t)(x >> 24);
+    }
+}
+
+static inline int all_bytes(const uint8_t *at, size_t length, uint8_t value)
+{
+    for (size_t i = 0; i < length; i++) {
+        if (at[i] != value) {
+            return 0;
+        }
+    }
+    return 1;
+}
+
+/* Gives an info block the checksum of its other bytes. */
+static inline void seal(uint8_t *block)
+{
+    uint32_t low = 0, high = 0;
+
+    for (unsigned i = 0; i < 1022; i++) {
+        low += get32(block + 4 * i);
+        high += low;
+    }
+    high += 2 * low;
+    put32(block + 4088, low);
+    put32(block + 4092, high);
+}
+
+static inline size_t units(size_t bytes)
+{
+    return (bytes + 4095) / 4096 * 4096;
+}
+
+/* The length that making works out. */
+static inline size_t arena_length(size_t size, size_t sectors, size_t lanes)
+{
+    return 4096 + units(size * (sectors + lanes)) + units(4 * sectors) + units(64 * lanes) + 4096;
+}
+
+#endif

@@ -1,0 +1,116 @@
+/*
+ * Arenas of 16 MiB, the largest there are, of both sector sizes and 16 lanes: every sector written on the lanes in turn, then rounds of
+ * writes of which some are cut, with an opening after each round and every sector read.
+ */
+#include "check.h"
+
+enum { LANES = 16, ROUNDS = 6, MOST_SECTORS = 32768 };
+
+static uint8_t *arena, work[MOST_SECTORS];
+static struct btt_handle handle;
+static uint32_t version[MOST_SECTORS];      /* the plain row: which write each sector has, 0 for none */
+static uint32_t last_version;
+
+static void bytes_of(uint32_t sector, uint32_t number, uint8_t *bytes)
+{
+    if (number == 0) {
+        memset(bytes, 0, handle.size);
+    } else {
+        pattern(bytes, handle.size, number * 40503u + sector);
+    }
+}
+
+static void open_arena(uint32_t expected)
+{
+    uint32_t mended;
+
+    CHECK(btt_open(arena, BTT_MAX_ARENA, work, sizeof work, &handle, &mended) == 0);
+    CHECK(mended == expected && handle.lanes == LANES);
+}
+
+static void read_all(void)
+{
+    static uint8_t bytes[4096], expected[4096];
+
+    for (uint32_t sector = 0; sector < handle.sectors; sector++) {
+        bytes_of(sector, version[sector], expected);
+        CHECK(btt_read(arena, BTT_MAX_ARENA, &handle, sector, bytes, handle.size) == 0);
+        CHECK(memcmp(bytes, expected, handle.size) == 0);
+    }
+}
+
+static void write_whole(uint32_t lane, uint32_t sector)
+{
+    static uint8_t bytes[4096];
+
+    version[sector] = ++last_version;
+    bytes_of(sector, last_version, bytes);
+    CHECK(btt_write(arena, BTT_MAX_ARENA, &handle, lane, sector, bytes, handle.size) == 0);
+}
+
+/* All lanes write at once, a step at a time in turn, to sectors spread over the arena; lane i stops after its own number of stores. */
+static uint32_t cut_round(uint32_t round)
+{
+    static uint8_t bytes[LANES][4096];
+    uint32_t stores = handle.size / 4 + 5, limit[LANES], sector[LANES], pending = 0;
+
+    for (uint32_t lane = 0; lane < LANES; lane++) {
+        sector[lane] = (handle.sectors / LANES * lane + 97 * round) % handle.sectors;
+        limit[lane] = stores - (lane + round) % 5;
+        bytes_of(sector[lane], ++last_version, bytes[lane]);
+        CHECK(btt_start(arena, BTT_MAX_ARENA, &handle, lane, sector[lane]) == 0);
+        if (limit[lane] >= stores - 1) {
+            version[sector[lane]] = last_version;
+            pending += limit[lane] == stores - 1;
+        }
+    }
+    for (uint32_t k = 0; k < stores; k++) {
+        for (uint32_t lane = 0; lane < LANES; lane++) {
+            if (k < limit[lane]) {
+                CHECK(btt_step(arena, BTT_MAX_ARENA, &handle, lane, bytes[lane], handle.size) == 0);
+            }
+        }
+    }
+    return pending;
+}
+
+static void try_size(uint32_t size, uint32_t sectors)
+{
+    static const uint8_t first_id[16], second_id[16];
+
+    CHECK(arena_length(size, sectors, LANES) == BTT_MAX_ARENA && sectors + LANES <= MOST_SECTORS);
+    memset(version, 0, sizeof version);
+    CHECK(btt_make(arena, BTT_MAX_ARENA, size, sectors, LANES, first_id, 16, second_id, 16) == 0);
+    open_arena(0);
+    read_all();
+    for (uint32_t i = 0; i < sectors; i++) {
+        write_whole(i % LANES, (uint32_t)((uint64_t)i * 7919 % sectors));
+    }
+    read_all();
+    open_arena(0);
+    read_all();
+    for (uint32_t round = 0; round < ROUNDS; round++) {
+        uint32_t pending = cut_round(round);
+
+        memset(&handle, 0xA5, sizeof handle);
+        open_arena(pending);
+        read_all();
+        for (uint32_t lane = 0; lane < LANES; lane++) {
+            write_whole(lane, (round * 1000 + lane * 3) % sectors);
+        }
+    }
+    open_arena(0);
+    read_all();
+}
+
+int main(void)
+{
+    arena = malloc(BTT_MAX_ARENA);
+    CHECK(arena != NULL);
+    memset(arena, 0xA5, BTT_MAX_ARENA);
+    try_size(512, 32472);
+    try_size(4096, 4073);
+    free(arena);
+    printf("large_arena: 16 MiB, %u writes, %lu checks\n", (unsigned)last_version, checks);
+    return 0;
+}

@@ -1,0 +1,271 @@
+/*
+ * The order and the width of the stores to the arena in the compiled library: a step is one store of 4 bytes, an opening one for each pending
+ * lane in rising order, a whole write its data and then five of 4 bytes; nothing else stores, and no refused call does.
+ *
+ * Asked for a file, the program writes there the address of each instruction of its own that ran while it watched, and which of them stored
+ * to the arena, for machine_code.py to look up.
+ */
+#include "watch.h"
+
+static struct btt_handle handle;
+static uint32_t mended;
+static uint8_t work[256], buffer[4096];
+
+/* Stores that are known are watched first, some of them of the bytes that are there already. */
+static void known_stores(void)
+{
+    static const struct store known[] = {{0, 8, 4}, {0, 16, 8}, {0, 33, 1}, {0, 34, 2}, {0, 62, 16}, {0, 4093, 8}, {0, 80, 1}, {0, 81, 1}};
+    const uint8_t *from = buffer;
+    uint8_t *to;
+    size_t count = 2;
+
+    length = ROOM;
+    to = arena + 80;
+    pattern(arena, length, 1);
+    tracing = 1;
+    watch();
+    *(volatile uint32_t *)(void *)(arena + 8) = *(const volatile uint32_t *)(void *)(arena + 8);
+    *(volatile uint64_t *)(void *)(arena + 16) = ~*(const volatile uint64_t *)(void *)(arena + 16);
+    *(volatile uint8_t *)(arena + 33) = 0;
+    *(volatile uint16_t *)(void *)(arena + 34) = *(const volatile uint16_t *)(void *)(arena + 34);
+    __asm__ volatile("movups %%xmm0, %0" : "=m"(*(uint8_t(*)[16])(arena + 62)));
+    __asm__ volatile("movq %1, %0" : "=m"(*(uint8_t(*)[8])(arena + 4093)) : "r"(from));
+    __asm__ volatile("rep movsb" : "+S"(from), "+D"(to), "+c"(count) : : "memory");
+    unwatch();
+    tracing = 0;
+    CHECK(made == COUNT(known));
+    for (size_t i = 0; i < COUNT(known); i++) {
+        CHECK(stores[i].offset == known[i].offset && stores[i].width == known[i].width && own_code(stores[i].code));
+    }
+    memset(ran, 0, 3 * (size_t)(stored - ran));
+}
+
+static void fresh(uint32_t size, uint32_t sectors, uint32_t lanes)
+{
+    length = arena_length(size, sectors, lanes);
+    CHECK(length <= ROOM && sectors + lanes <= sizeof work);
+    pattern(arena, length, 2);
+    CHECK(btt_make(arena, length, size, sectors, lanes, buffer, 16, buffer + 16, 16) == 0);
+    tracing = 0;
+    WATCHED(0, btt_open(arena, length, work, sectors + lanes, &handle, &mended));
+    CHECK(made == 0 && mended == 0);
+}
+
+/* A store of the four bytes of one word, by an instruction of the library. */
+static void check_word(const struct store *s, uint64_t offset)
+{
+    CHECK(s->offset == offset && s->width == 4 && offset % 4 == 0);
+    CHECK(own_code(s->code));
+    mark(stored_word, s->code);
+}
+
+/* The place of store k, from 0, of a write. */
+static uint64_t place(const struct btt_lane *r, uint32_t lane, uint32_t k)
+{
+    uint32_t words = handle.size / 4;
+
+    if (k < words) {
+        return handle.data + (uint64_t)r->block * handle.size + 4 * k;
+    }
+    return k < words + 4 ? handle.flog + 64 * lane + 16 * r->half + 4 * (k - words) : handle.map + 4 * r->sector;
+}
+
+/* The first stores of a write by steps: a start stores nothing, a step one word. */
+static void watch_steps(uint32_t lane, uint32_t sector, uint32_t count)
+{
+    struct btt_lane r;
+
+    WATCHED(0, btt_start(arena, length, &handle, lane, sector));
+    CHECK(made == 0);
+    r = handle.lane[lane];
+    for (uint32_t k = 0; k < count; k++) {
+        tracing = k % 64 == 0 || k >= handle.size / 4;
+        WATCHED(0, btt_step(arena, length, &handle, lane, buffer, handle.size));
+        CHECK(made == 1);
+        check_word(&stores[0], place(&r, lane, k));
+    }
+}
+
+/* A whole write: first the data, rising without a gap, then the four flog words and the map word, each a store of its own. */
+static void watch_write(uint32_t lane, uint32_t sector)
+{
+    struct btt_lane r = handle.lane[lane];
+    uint32_t stored_bytes = 0, words = handle.size / 4;
+    size_t i = 0;
+
+    r.sector = sector;
+    WATCHED(0, btt_write(arena, length, &handle, lane, sector, buffer, handle.size));
+    for (; stored_bytes < handle.size; i++) {
+        CHECK(i < made && stores[i].offset == place(&r, lane, 0) + stored_bytes);
+        stored_bytes += stores[i].width;
+    }
+    CHECK(stored_bytes == handle.size && made == i + 5);
+    for (uint32_t k = 0; k < 5; k++) {
+        check_word(&stores[i + k], place(&r, lane, words + k));
+    }
+}
+
+/* A write by steps, unwatched, that is left when it lacks only its map word. */
+static void lack_map_word(uint32_t lane, uint32_t sector)
+{
+    CHECK(btt_start(arena, length, &handle, lane, sector) == 0);
+    for (uint32_t k = 0; k < handle.size / 4 + 4; k++) {
+        CHECK(btt_step(arena, length, &handle, lane, buffer, handle.size) == 0);
+    }
+}
+
+/* Openings of an arena in which lanes lack only their map words: one word for each, in rising order, and none after the first k. */
+static void watch_mending(uint32_t size, uint32_t sectors, uint32_t lanes)
+{
+    static uint8_t pending[ROOM];
+    uint32_t blocks = sectors + lanes;
+
+    fresh(size, sectors, lanes);
+    for (uint32_t lane = 0; lane < lanes; lane++) {
+        for (uint32_t i = 0; i < lane % 3; i++) {
+            CHECK(btt_write(arena, length, &handle, lane, 0, buffer, size) == 0);
+        }
+        if (lane % 4 != 1) {
+            lack_map_word(lane, sectors - 1 - lane);
+        }
+    }
+    memcpy(pending, arena, length);
+    for (uint32_t k = 0; k <= lanes + 1; k++) {
+        size_t i = 0;
+
+        tracing = k % 2;
+        memcpy(arena, pending, length);
+        if (k <= lanes) {
+            WATCHED(0, btt_cut_open(arena, length, work, blocks, k, &mended));
+        } else {
+            WATCHED(0, btt_open(arena, length, work, blocks, &handle, &mended));
+        }
+        CHECK(mended == lanes - (lanes + 2) / 4 && made == (k < mended ? k : mended));
+        for (uint32_t lane = 0; i < made; lane++) {
+            if (lane % 4 != 1) {
+                check_word(&stores[i++], handle.map + 4 * (sectors - 1 - lane));
+            }
+        }
+    }
+}
+
+/* A call that must answer so and store nothing, not even the bytes that are there already. */
+#define STORES_NOTHING(want, call) do { WATCHED(want, call); CHECK(made == 0); } while (0)
+
+static void watch_refused_openings(void)
+{
+    static const struct {
+        size_t at;
+        uint32_t value, answer;
+    } damage[] = {
+        {52, 1, 3}, {48, 1, 4}, {40972, 0, 6}, {40972, 4, 6}, {40988, 1, 6}, {41152, 60, 6}, {36864, 0xC0000040, 7}, {37100, 0x40000040, 7},
+        {36884, 0xC0000007, 8}, {36888, 0x80000007, 8},
+    };
+
+    for (size_t i = 0; i < COUNT(damage); i++) {
+        fresh(512, 60, 4);
+        lack_map_word(1, 7);
+        put32(arena + damage[i].at, damage[i].value);
+        seal(arena);
+        tracing = 1;
+        STORES_NOTHING(damage[i].answer, btt_open(arena, length, work, 64, &handle, &mended));
+        STORES_NOTHING(damage[i].answer, btt_cut_open(arena, length, work, 64, 4, &mended));
+    }
+    fresh(512, 60, 4);
+    tracing = 1;
+    STORES_NOTHING(5, btt_open(arena, length, work, 63, &handle, &mended));
+    arena[16] ^= 1;
+    STORES_NOTHING(0, btt_open(arena, length, work, 64, &handle, &mended));
+    arena[length - 16] ^= 1;
+    STORES_NOTHING(2, btt_open(arena, length, work, 64, &handle, &mended));
+    STORES_NOTHING(1, btt_open(arena, length - 4, work, 64, &handle, &mended));
+}
+
+static void watch_other_calls(void)
+{
+    struct btt_lane record;
+    uint64_t offset, bytes;
+
+    fresh(512, 60, 4);
+    watch_steps(0, 7, 2);
+    put32(arena + handle.map + 20, 0x80000040);
+    tracing = 1;
+    STORES_NOTHING(3, btt_make(arena, length, 512, 3, 4, buffer, 16, buffer + 16, 16));
+    STORES_NOTHING(1, btt_make(arena, length, 512, 70, 4, buffer, 16, buffer + 16, 16));
+    STORES_NOTHING(10, btt_make(arena, length, 512, 60, 4, buffer, 15, buffer + 16, 16));
+    STORES_NOTHING(0, (btt_info_block(arena, length, &offset, &bytes), 0));
+    STORES_NOTHING(0, btt_read(arena, length, &handle, 7, buffer, 512));
+    STORES_NOTHING(9, btt_read(arena, length, &handle, 60, buffer, 512));
+    STORES_NOTHING(0, btt_lane(arena, length, &handle, 0, &record));
+    STORES_NOTHING(0, btt_next_store(arena, length, &handle, 0, &offset));
+    STORES_NOTHING(14, btt_step(arena, length, &handle, 1, buffer, 512));
+    STORES_NOTHING(10, btt_step(arena, length, &handle, 0, buffer, 511));
+    STORES_NOTHING(11, btt_step(arena, length, &handle, 4, buffer, 512));
+    STORES_NOTHING(11, btt_write(arena, length, &handle, 4, 3, buffer, 512));
+    STORES_NOTHING(12, btt_write(arena, length, &handle, 0, 3, buffer, 512));
+    STORES_NOTHING(9, btt_write(arena, length, &handle, 1, 60, buffer, 512));
+    STORES_NOTHING(10, btt_write(arena, length, &handle, 1, 3, buffer, 511));
+    STORES_NOTHING(13, btt_write(arena, length, &handle, 1, 7, buffer, 512));
+    STORES_NOTHING(7, btt_write(arena, length, &handle, 1, 5, buffer, 512));
+    handle.lane[3].busy = 2;
+    STORES_NOTHING(16, btt_write(arena, length, &handle, 1, 3, buffer, 512));
+    STORES_NOTHING(16, btt_step(arena, length, &handle, 0, buffer, 512));
+    handle.lane[3].busy = 0;
+    handle.copy = 0;
+    STORES_NOTHING(16, btt_write(arena, length, &handle, 1, 3, buffer, 512));
+    STORES_NOTHING(16, btt_step(arena, length, &handle, 0, buffer, 512));
+}
+
+/* Whole writes and writes by steps on each lane in turn, so that both halves and all sequence numbers occur, over all four map states. */
+static void watch_writes(uint32_t size, uint32_t sectors, uint32_t lanes)
+{
+    fresh(size, sectors, lanes);
+    for (uint32_t i = 0; i < 4 && i < sectors; i++) {
+        put32(arena + handle.map + 4 * i, i << 30 | i);
+    }
+    for (uint32_t i = 0; i < 4 * lanes; i++) {
+        tracing = i % 5 == 0;
+        pattern(buffer, size, i);
+        watch_write(i % lanes, i % sectors);
+    }
+    memset(buffer, 0, size);
+    watch_write(0, 0);
+    watch_write(0, 0);
+    for (uint32_t i = 0; i < 2; i++) {
+        pattern(buffer, size, i);
+        watch_steps(lanes - 1, i, size / 4 + 5);
+    }
+}
+
+/* The instructions of this program, by their addresses: those that ran, those that stored to the arena, those that stored a flog or map word. */
+static void list_instructions(const char *path)
+{
+    FILE *file = fopen(path, "w");
+    size_t code = (size_t)(stored - ran);
+
+    CHECK(file != NULL);
+    for (size_t i = 0; i < code; i++) {
+        if (ran[i]) {
+            fprintf(file, "%lx%s%s\n", (unsigned long)((uintptr_t)__executable_start + i), stored[i] ? " stored" : "", stored_word[i] ? " word" : "");
+        }
+    }
+    CHECK(fclose(file) == 0);
+}
+
+int main(int count, char **words)
+{
+    set_up();
+    known_stores();
+    watch_writes(512, 60, 4);
+    watch_writes(4096, 4, 2);
+    watch_mending(512, 60, 4);
+    watch_mending(512, 20, 16);
+    watch_mending(4096, 5, 2);
+    watch_refused_openings();
+    watch_other_calls();
+    if (count > 1) {
+        list_instructions(words[1]);
+    }
+    printf("store_order: %lu calls watched, %lu stores to the arena, %lu checks\n", calls, all_stores, checks);
+    return 0;
+}
