@@ -145,7 +145,7 @@ uint32_t btt_write(uint8_t *arena, size_t arena_length, struct btt_handle *handl
                    size_t buffer_length);
 
 /* A lane's record. Answers 16, 11; a refusal leaves *record. */
-uint32_t btt_lane(const uint8_t *arena, size_t arena_length, const struct btt_handle *handle, uint32_t lane, struct btt_lane *record);
+uint32_t btt_lane_record(const uint8_t *arena, size_t arena_length, const struct btt_handle *handle, uint32_t lane, struct btt_lane *record);
 
 /*
  * The byte offset of the one word that the lane's next step will store, so that a host can flush just that line before the step after it.

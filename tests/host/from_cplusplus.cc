@@ -1,4 +1,4 @@
-// The header in a C++ program: the functions are C functions there too, and a handle is plain data.
+// The header in a C++ program: the functions are C functions there too, and the structs are plain data with names of their own.
 #include "btt.h"
 
 int main()
@@ -7,11 +7,11 @@ int main()
     uint64_t offset = 1, length = 1;
     uint32_t mended = 1;
     btt_handle handle;
-    struct btt_lane record;
+    btt_lane record;
 
     btt_info_block(NULL, 0, &offset, &length);
     if (offset != 0 || length != 0 || btt_open(none, 0, none, 0, &handle, &mended) != BTT_WRONG_LENGTH || mended != 0) {
         return 1;
     }
-    return btt_lane(NULL, 0, &handle, 0, &record) == BTT_BAD_HANDLE && btt_answer_text(BTT_BAD_HANDLE)[0] != '\0' ? 0 : 1;
+    return btt_lane_record(NULL, 0, &handle, 0, &record) == BTT_BAD_HANDLE && btt_answer_text(BTT_BAD_HANDLE)[0] != '\0' ? 0 : 1;
 }

@@ -170,7 +170,7 @@ static inline uint32_t write_sector(uint32_t lane, uint32_t sector)
 
 static inline uint32_t lane_record(uint32_t lane)
 {
-    return btt_lane(SLICE(ARENA), handle, lane, (struct btt_lane *)(void *)lent[RECORD].at);
+    return btt_lane_record(SLICE(ARENA), handle, lane, (struct btt_lane *)(void *)lent[RECORD].at);
 }
 
 static inline uint32_t next_store(uint32_t lane)

@@ -196,7 +196,7 @@ static void watch_other_calls(void)
     STORES_NOTHING(0, (btt_info_block(arena, length, &offset, &bytes), 0));
     STORES_NOTHING(0, btt_read(arena, length, &handle, 7, buffer, 512));
     STORES_NOTHING(9, btt_read(arena, length, &handle, 60, buffer, 512));
-    STORES_NOTHING(0, btt_lane(arena, length, &handle, 0, &record));
+    STORES_NOTHING(0, btt_lane_record(arena, length, &handle, 0, &record));
     STORES_NOTHING(0, btt_next_store(arena, length, &handle, 0, &offset));
     STORES_NOTHING(14, btt_step(arena, length, &handle, 1, buffer, 512));
     STORES_NOTHING(10, btt_step(arena, length, &handle, 0, buffer, 511));

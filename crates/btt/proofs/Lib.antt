@@ -4,3 +4,4 @@ pub mod Infos
 pub mod Fits
 pub mod Same
 pub mod Shown
+pub mod Listing

@@ -1,5 +1,5 @@
 -- What the library's calls are to the machine's: bytes stand for a handle, and each call through them is the machine's call on that handle.
--- So what is claimed of the machine's lists of calls holds of a host's.
+-- `HostList` says it of lists of calls.
 use mathlib.Core.Path.{_≡_}
 use mathlib.Core.Logic.{_≢_, _⊎_}
 use mathlib.Core.List.{List}

@@ -1,3 +1,4 @@
 pub mod Calls
 pub mod Gave
 pub mod Host
+pub mod HostList

@@ -184,7 +184,12 @@ pub extern "C" fn btt_write(
 
 // A lane's record, for inspection.
 #[no_mangle]
-pub extern "C" fn btt_lane(arena: &[u8], handle: &[u8; 512], lane: u32, out: &mut [u8; 28]) -> u32
+pub extern "C" fn btt_lane_record(
+    arena: &[u8],
+    handle: &[u8; 512],
+    lane: u32,
+    out: &mut [u8; 28],
+) -> u32
     ensures { λ r. ⌜ gave.lane r (now (out .exit)) ≡ bttLaneOf (now (arena .entry)) (now (handle .entry)) lane (now (out .entry)) ⌝ }
 {
     if !busy_ok(handle) {

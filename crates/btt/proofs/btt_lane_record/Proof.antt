@@ -1,9 +1,9 @@
--- `btt_lane` meets its contract: what is judged well has a record below the lanes, whose words are stored.
+-- `btt_lane_record` meets its contract: what is judged well has a record below the lanes, whose words are stored.
 use Rattle.btt.proofs.Rules.{passes, fails, few, lane-passed}
 use Rattle.btt.proofs.Laws.{lane-bad, lane-refused, lane-done}
 use borrow.Author.Needs.{needs}
-use Rattle.btt.proofs.btt_lane.Statement.{statement}
-use Rattle.btt.proofs.btt_lane.Tie as tie
+use Rattle.btt.proofs.btt_lane_record.Statement.{statement}
+use Rattle.btt.proofs.btt_lane_record.Tie as tie
 
 busy-ok-requires : tie.Need-busy-ok-requires
 busy-ok-requires c κs = search needs
@@ -59,8 +59,8 @@ returns-3 c =
     (lane-done _ _ _ _ _ (passes (i .before .busy-ok .ensures) (i .if1 .left)) _ (h .handle-in .ensures) (j .judge-lane .ensures)
     (passes (d .is-done .ensures) (c .before .before .before .before .if2 .left)))
 
-pub btt-lane-spec : {M : Type 1} → statement M
-btt-lane-spec =
+pub btt-lane-record-spec : {M : Type 1} → statement M
+btt-lane-record-spec =
     tie.close
     (tie.spec
     busy-ok-requires

@@ -1,0 +1,108 @@
+-- A host's list of calls and openings, made through the library alone: what it leaves and answers. The claim is that a list that begins
+-- with bytes that stand for a handle is the machine's list on that handle, so what demands 2 and 3 say of lists holds of a host's.
+use mathlib.Core.Path.{_≡_}
+use mathlib.Core.Bool.{cond}
+use mathlib.Core.List.{List, [], _∷_}
+use Prim.Native.Nat.{ℕ}
+use lib.Dec.{eqb}
+use Rattle.machine.specs.DemandTwo.{openedFrom}
+use Rattle.machine.specs.History.{
+  Call,
+  read,
+  start,
+  step,
+  write,
+  State,
+  Reply,
+  justNumber,
+  run,
+  replies,
+  Event,
+  called,
+  opened,
+  runEvents,
+  replyEvents,
+}
+use Rattle.machine.specs.Valid.{Small}
+use Rattle.handlebytes.specs.Stands.{Stands}
+use Rattle.btt.specs.Calls.{HostOpening, HostOutcome, bttOpenOf, bttReadOf, bttStartOf, bttStepOf, bttWriteOf}
+
+-- an arena and the bytes of its latest handle
+pub record HostState : Type 0 where
+  pub arena : List ℕ
+  pub handle : List ℕ
+
+abbrev pub outcomeHost : HostOutcome → HostState
+outcomeHost o = record { arena = o .arena; handle = o .handle }
+
+abbrev pub openedHost : HostOpening → HostState
+openedHost o = record { arena = o .arena; handle = o .handle }
+
+-- what a host has after a call; a read changes neither
+abbrev pub hostAfter : HostState → Call → HostState
+hostAfter y (read s buffer) = y
+hostAfter y (start l s) = outcomeHost (bttStartOf (y .arena) (y .handle) l s)
+hostAfter y (step l buffer) = outcomeHost (bttStepOf (y .arena) (y .handle) l buffer)
+hostAfter y (write l s buffer) = outcomeHost (bttWriteOf (y .arena) (y .handle) l s buffer)
+
+abbrev pub hostReply : HostState → Call → Reply
+hostReply y (read s buffer) = let r = bttReadOf (y .arena) (y .handle) s buffer in record { number = r .number; buffer = r .buffer; mended = 0 }
+hostReply y (start l s) = justNumber ((bttStartOf (y .arena) (y .handle) l s) .number)
+hostReply y (step l buffer) = justNumber ((bttStepOf (y .arena) (y .handle) l buffer) .number)
+hostReply y (write l s buffer) = justNumber ((bttWriteOf (y .arena) (y .handle) l s buffer) .number)
+
+-- each call is given what the last one left
+unfoldable pub hostRun : HostState → List Call → HostState
+hostRun y [] = y
+hostRun y (c ∷ cs) = hostRun (hostAfter y c) cs
+
+unfoldable pub hostReplies : HostState → List Call → List Reply
+hostReplies y [] = []
+hostReplies y (c ∷ cs) = hostReply y c ∷ hostReplies (hostAfter y c) cs
+
+-- ---- with openings between
+
+-- a host lends an opening 512 bytes apart from its latest handle's; they are the latest from then on if the opening is accepted
+abbrev pub hostAfterEvent : HostState → Event → HostState
+hostAfterEvent y (called c) = hostAfter y c
+hostAfterEvent y (opened work) =
+    let o = bttOpenOf (y .arena) work in
+    record { arena = o .arena; handle = cond (eqb (o .number) 0) (o .handle) (y .handle) }
+
+abbrev pub hostReplyEvent : HostState → Event → Reply
+hostReplyEvent y (called c) = hostReply y c
+hostReplyEvent y (opened work) = let o = bttOpenOf (y .arena) work in record { number = o .number; buffer = o .work; mended = o .mended }
+
+unfoldable pub hostRunEvents : HostState → List Event → HostState
+hostRunEvents y [] = y
+hostRunEvents y (e ∷ es) = hostRunEvents (hostAfterEvent y e) es
+
+unfoldable pub hostReplyEvents : HostState → List Event → List Reply
+hostReplyEvents y [] = []
+hostReplyEvents y (e ∷ es) = hostReplyEvent y e ∷ hostReplyEvents (hostAfterEvent y e) es
+
+-- ---- the claim
+
+-- a host has the machine's arena, and bytes that stand for its handle
+pub record StandsFor (y : HostState) (x : State) : Type 0 where
+  pub arena : y .arena ≡ x .arena
+  pub handle : Stands (y .handle) (x .handle)
+
+-- a host's list answers as the machine's, call by call, and leaves what stands for what the machine's leaves
+pub record SameCalls (y : HostState) (x : State) (cs : List Call) : Type 0 where
+  pub replies : hostReplies y cs ≡ replies x cs
+  pub leaves : StandsFor (hostRun y cs) (run x cs)
+
+-- with openings between: the arena that is left is bytes still, so that another such list may follow
+pub record SameEvents (y : HostState) (x : State) (es : List Event) : Type 0 where
+  pub replies : hostReplyEvents y es ≡ replyEvents x es
+  pub leaves : StandsFor (hostRunEvents y es) (runEvents x es)
+  pub small : Small ((runEvents x es) .arena)
+
+pub record HostListClaim : Type 0 where
+  -- any calls with any numbers and buffers, on any arena and any handle that the host's bytes stand for
+  pub calls : (y : HostState) (x : State) (cs : List Call) → StandsFor y x → SameCalls y x cs
+  -- any calls and openings, on an arena of bytes
+  pub events : (y : HostState) (x : State) (es : List Event) → StandsFor y x → Small (x .arena) → SameEvents y x es
+  -- a host that begins with an opening has what the machine has
+  pub first : (a work : List ℕ) → Small a → StandsFor (openedHost (bttOpenOf a work)) (openedFrom a work)
