@@ -19,7 +19,7 @@ use Rattle.machine.specs.Handle.{laneAt}
 use Rattle.machine.specs.Lane.{idleLane, noLane}
 use Rattle.machine.specs.Opening.{figuresIn, layoutIn, openNumber, openOf, handleFor}
 use Rattle.machine.specs.Valid.{Small, Valid}
-use Rattle.machine.proofs.Claim.{opening-claim}
+use Rattle.machine.proofs.Opening.{opening-claim}
 use Rattle.arena.proofs.Records.{records-length}
 use Rattle.handlebytes.specs.Stands.{RecordFits, FiguresFit, HandleFits, Stands}
 use Rattle.handlebytes.proofs.Whole.{encoded-stands, zeroes-stand}

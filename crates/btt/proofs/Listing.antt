@@ -36,7 +36,7 @@ use Rattle.machine.specs.Valid.{Small}
 use Rattle.machine.specs.Writing.{Outcome, startOf, stepNumber, stepOf, stepsOf, writeNumber, writeOf}
 use Rattle.machine.specs.declared.handle.Handle.{Handle}
 use Rattle.machine.proofs.Calls.{held-open}
-use Rattle.machine.proofs.Claim.{opening-claim}
+use Rattle.machine.proofs.Opening.{opening-claim}
 use Rattle.machine.proofs.Histories.{opening-cases, held-small}
 use Rattle.writing.proofs.Rules.{handle-fit}
 use Rattle.btt.specs.Calls.{HostOutcome, bttOpenOf}

@@ -16,7 +16,7 @@ use Rattle.machine.specs.declared.handle.Handle.{Handle}
 use Rattle.machine.specs.Lane.{idleLane, writeStores}
 use Rattle.machine.specs.Handle.{laneAt}
 use Rattle.machine.specs.Stores.{Store, putAll}
-use Rattle.machine.specs.Opening.{figuresIn, layoutIn, foundLane, handleFor, openNumber, openOf, mends, pendingLanes}
+use Rattle.machine.specs.Opening.{figuresIn, layoutIn, foundLane, Opening, openOf, mends, pendingLanes}
 use Rattle.machine.specs.Claims.{Cut, CutsLeaveNoTrace}
 use Rattle.machine.specs.Reading.{readOf}
 use Rattle.machine.specs.History.{State}
@@ -25,17 +25,19 @@ use Rattle.machine.specs.DemandThree.{Differ, Same, AfterCut}
 use Rattle.machine.proofs.Stores.{Agree, putAll-append, any-order}
 use Rattle.machine.proofs.Inv.{LaneInv, Inv}
 use Rattle.machine.proofs.StoreKinds.{store-log}
-use Rattle.machine.proofs.Found.{settledLane, found-lane}
-use Rattle.machine.proofs.Lanes.{found-at}
+use Rattle.machine.proofs.Found.{settledLane, idle-ended, found-lane}
+use Rattle.machine.proofs.Opens.{opened-figures, opened-lane, opened-idle}
 use Rattle.machine.proofs.Good.{good-number}
 use Rattle.machine.proofs.Calls.{Held, held-open, lanes-in}
+use Rattle.machine.proofs.Histories.{held-small}
 use Rattle.machine.proofs.Settled.{each-once}
 use Rattle.machine.proofs.Cuts.{cuts-no-trace}
+use Rattle.machine.proofs.SectorReads.{read-holds}
 use Rattle.machine.proofs.Entries.{retally, differ-retally}
 use Rattle.machine.proofs.FirstArena.{First, held-inv}
-use Rattle.machine.proofs.BookStores.{storeOf, KeptAs, EntryOk, entry-like, BookOk, kept-in, kept-fits, kept-agree, kept-more}
+use Rattle.machine.proofs.BookStores.{booked, storeOf, KeptAs, EntryOk, entry-like, BookOk, kept-from, kept-fits, kept-agree, kept-more}
 use Rattle.machine.proofs.BookLanes.{LaneOf, untouched, written, laneWith, lane-flying, lane-moved}
-use Rattle.machine.proofs.BookReads.{read-holds, read-old, read-new}
+use Rattle.machine.proofs.BookReads.{read-old, read-new}
 use Rattle.machine.proofs.Sim.{Sim}
 use Rattle.machine.proofs.LastWords.{lastOf, last-in, last-out, mends-last, pending-last}
 
@@ -91,7 +93,7 @@ module _ (a : List ℕ) where
     where
       go : LaneOf a b l r → idled (settledLane (layoutIn a) r) ≡ laneThen a b l
       go (untouched x n) = unfold settledLane in
-          (rw (ne-eqb (r .made) ((layoutIn a) .W + 4) (λ e. omega (arith, i .still (x .idle)))) (sym (x .is) ∙ sym (then-none b l n)))
+          (rw (idle-ended (layoutIn a) A l r i (x .idle)) (sym (x .is) ∙ sym (then-none b l n)))
       go (written e m p is) = rw (is, ← p) (settled-with e ∙ sym (then-at b f e m))
 
 -- ---- the book with those writes finished
@@ -104,13 +106,16 @@ module _ (a : List ℕ) (bytes : ℕ → List ℕ) where
   done = retally doneTally
 
   module _ (x : First a) (b : List Entry) (y : State) (z : Sim a bytes b y) where
+    abbrev c : List Entry
+    c = map done b
+
     done-lacks : (e : Entry) → lacksMapWord a e ≡ true → doneTally e ≡ e .tally + 1
     done-lacks e t = rw t (sym (eqb-true (e .tally + 1) (writeStores (layoutIn a)) t))
 
     done-else : (e : Entry) → lacksMapWord a e ≡ false → doneTally e ≡ e .tally
     done-else e t = rw t
 
-    done-ok : BookOk a bytes (map (retally doneTally) b)
+    done-ok : BookOk a bytes c
     done-ok = record {
       each = λ d m. let w = Memᴰ·of-map done b m in rw (← w .2) (each (w .0) (z .ok .each (w .0) (w .1)));
       differ = differ-retally doneTally b (z .ok .differ);
@@ -126,7 +131,7 @@ module _ (a : List ℕ) (bytes : ℕ → List ℕ) where
     last-is : (e : Entry) (k : ℕ) → k + 1 ≡ writeStores (layoutIn a) → storeOf a bytes e k ≡ lastOf a e
     last-is e k p = store-log (layoutIn a) _ (bytes (e .lane)) k 4 (omega arith)
 
-    last-known : (st : Store) → List·Memᴰ st (lastWords a b) → KeptAs a bytes (map (retally doneTally) b) st
+    last-known : (st : Store) → List·Memᴰ st (lastWords a b) → KeptAs a bytes c st
     last-known st m =
         let r = last-out a b st m in
         record {
@@ -137,7 +142,7 @@ module _ (a : List ℕ) (bytes : ℕ → List ℕ) where
           is = r .3 ∙ sym (last-is (r .0) (r .0 .tally) (eqb-true (r .0 .tally + 1) (writeStores (layoutIn a)) (r .2)));
         }
 
-    done-arena : putAll (layoutIn a) (kept a bytes (map (retally doneTally) b)) a ≡ putAll (layoutIn a) (lastWords a b) (y .arena)
+    done-arena : booked a bytes c ≡ putAll (layoutIn a) (lastWords a b) (y .arena)
     done-arena = rw (z .arena)
         (kept-more a bytes x doneTally (lastWords a b) b done-ok (λ e m. grows e)
         (λ e m k u v. by-bool (lacksMapWord a e) _
@@ -168,46 +173,43 @@ module _ (a : List ℕ) (bytes : ℕ → List ℕ) where
     mended-is = sym (any-order (layoutIn a) (x .ok) (lastWords a b) (mends (layoutIn a) (y .arena) ((layoutIn a) .N)) (y .arena) (inv .arena)
         (λ st m. kept-fits a bytes x c done-ok st (member st m)) (agree (kept-agree a bytes x c done-ok)) (same-stores .from) (same-stores .to))
       where
-        c : List Entry
-        c = map (retally doneTally) b
+        member : (st : Store) → List·Memᴰ st (lastWords a b) → List·Memᴰ st (kept a bytes c)
+        member st m = kept-from a bytes c st (last-known st m)
 
-        member : (st : Store) → List·Memᴰ st (lastWords a b) → List·Memᴰ st (kept a bytes (map (retally doneTally) b))
-        member st m = let r = last-known st m in Memᴰ·cast (r .is) (kept-in a bytes c (r .entry) (r .member) (r .number) (r .early))
-
-        agree : Agree (kept a bytes (map (retally doneTally) b)) → Agree (lastWords a b)
+        agree : Agree (kept a bytes c) → Agree (lastWords a b)
         agree f = unfold Agree in (λ st su m n e. f st su (member st m) (member su n) e)
 
     module _ (h : Handle) (k : Held a h) (work : List ℕ) (room : (figuresIn a) .blocks ≤ length work) where
-      number : openNumber (y .arena) (length work) ≡ 0
+      abbrev o : Opening
+      o = openOf (y .arena) work
+
+      number : o .number ≡ 0
       number = good-number (y .arena) (y .handle .figures) (y .handle .lanes) (z .held .good) work (rw (z .figures) room)
 
-      opened-arena : (openOf (y .arena) work) .arena ≡ putAll (layoutIn a) (lastWords a b) (y .arena)
+      opened-arena : o .arena ≡ putAll (layoutIn a) (lastWords a b) (y .arena)
       opened-arena = unfold openOf in (rw (number, same-figures) mended-is)
 
-      opened-handle : (openOf (y .arena) work) .handle ≡ handleFor (y .arena)
-      opened-handle = unfold openOf in (rw number)
+      figures : o .handle .figures ≡ figuresIn a
+      figures = opened-figures (y .arena) work number ∙ same-figures
 
-      figures : (openOf (y .arena) work) .handle .figures ≡ figuresIn a
-      figures = rw opened-handle (unfold handleFor in same-figures)
+      held : Held (o .arena) (o .handle)
+      held = held-open (y .arena) work (held-small y (z .held)) number
 
-      held : Held ((openOf (y .arena) work) .arena) ((openOf (y .arena) work) .handle)
-      held = held-open (y .arena) work (z .held .good .inv .arena .bytes .small) (unfold openOf in number)
+      lane-found : (l : ℕ) → l < (layoutIn a) .N → laneAt (o .handle .lanes) l ≡ foundLane (layoutIn a) (y .arena) l
+      lane-found l v = rw same-figures at (opened-lane (y .arena) work number l (rw same-figures v))
 
-      opened-lane : (l : ℕ) → l < (layoutIn a) .N → laneAt ((openOf (y .arena) work) .handle .lanes) l ≡ foundLane (layoutIn a) (y .arena) l
-      opened-lane l v = rw opened-handle (unfold handleFor in (rw same-figures (found-at (layoutIn a) (y .arena) ((layoutIn a) .N) l _ v)))
-
-      opened-inv : Inv (layoutIn a) ((openOf (y .arena) work) .arena) ((openOf (y .arena) work) .handle .lanes)
+      opened-inv : Inv (layoutIn a) (o .arena) (o .handle .lanes)
       opened-inv = rw (held .good .figures ∙ figures) at (held-inv _ _ held)
 
       -- the arena is that of the book with those writes finished
-      opened-done : (openOf (y .arena) work) .arena ≡ putAll (layoutIn a) (kept a bytes (map (retally doneTally) b)) a
+      opened-done : o .arena ≡ booked a bytes c
       opened-done = opened-arena ∙ sym done-arena
 
       new : (e : Entry) → List·Memᴰ e b → writeStores (layoutIn a) ≤ e .tally + 1 → (buffer : List ℕ) → length buffer ≡ (figuresIn a) .size
-          → readOf ((openOf (y .arena) work) .arena) ((openOf (y .arena) work) .handle) (e .sector) buffer
+          → readOf (o .arena) (o .handle) (e .sector) buffer
           ≡ record { number = 0; buffer = bytes (e .lane) }
       new e m u buffer size =
-          read-new a bytes x (map (retally doneTally) b) done-ok _ _ held figures opened-done (e .sector) buffer (done e) (Memᴰ·map done m) full refl
+          read-new a bytes x c done-ok _ _ held figures opened-done (e .sector) buffer (done e) (Memᴰ·map done m) full refl
           ∙ read-holds (figuresIn a) (bytes (e .lane)) (e .sector) buffer (z .ok .each e m .sector-in) size
         where
           full : doneTally e ≡ writeStores (layoutIn a)
@@ -215,27 +217,24 @@ module _ (a : List ℕ) (bytes : ℕ → List ℕ) where
               (λ t. done-else e t ∙ omega (arith, z .ok .each e m .tally-in, eqb-false (e .tally + 1) (writeStores (layoutIn a)) t))
 
       as-before : (s : ℕ) → ((e : Entry) → List·Memᴰ e b → e .sector ≡ s → e .tally + 1 < writeStores (layoutIn a)) → (buffer : List ℕ)
-          → readOf ((openOf (y .arena) work) .arena) ((openOf (y .arena) work) .handle) s buffer ≡ readOf a h s buffer
+          → readOf (o .arena) (o .handle) s buffer ≡ readOf a h s buffer
       as-before s n buffer =
-          read-old a bytes x (map (retally doneTally) b) done-ok _ _ held figures opened-done s buffer h k
+          read-old a bytes x c done-ok _ _ held figures opened-done s buffer h k
           (λ d m p. let w = Memᴰ·of-map done b m in rw (← w .2) (low (w .0) (n (w .0) (w .1) (rw (← w .2) at p))))
         where
           low : (e : Entry) → e .tally + 1 < writeStores (layoutIn a) → doneTally e < writeStores (layoutIn a)
           low e u = omega (arith, done-else e (ne-eqb (e .tally + 1) (writeStores (layoutIn a)) (λ p. omega arith)))
 
       no-trace : (cuts : List Cut) → CutsLeaveNoTrace (y .arena) work cuts
-      no-trace cuts = cuts-no-trace work (y .arena) cuts (z .held .good .inv .arena .bytes .small)
-
-      zero-number : (openOf (y .arena) work) .number ≡ 0
-      zero-number = unfold openOf in number
+      no-trace cuts = cuts-no-trace work (y .arena) cuts (held-small y (z .held))
 
       pub after-cut : AfterCut a h bytes (y .arena) b work
       after-cut = record {
-        number = zero-number;
+        number = number;
         figures = figures;
-        idle = λ l u. ap (λ (r : Lane). r .busy) (opened-lane l (lanes-in (figuresIn a) l (rw figures at u)));
+        idle = opened-idle (y .arena) work number;
         lanes = λ l u. let v = lanes-in (figuresIn a) l u in
-            opened-lane l v ∙ lane-then a b (z .ok .differ) (y .arena) l (laneAt (y .handle .lanes) l) (inv .lane l v) (z .lanes l v);
+            lane-found l v ∙ lane-then a b (z .ok .differ) (y .arena) l (laneAt (y .handle .lanes) l) (inv .lane l v) (z .lanes l v);
         stores = rw same-figures same-stores;
         arena = opened-arena;
         pending = rw same-figures pending-is;
@@ -243,8 +242,8 @@ module _ (a : List ℕ) (bytes : ℕ → List ℕ) where
         new = new;
         as-before = as-before;
         once = each-once (layoutIn a) _ _ (opened-inv .map-in) (λ l u. opened-inv .lane l u .block-in) (opened-inv .once);
-        cuts-number = λ cuts. no-trace cuts .number ∙ zero-number;
-        cuts-arena = λ cuts. no-trace cuts .arena (λ e. omega (arith, zero-number));
+        cuts-number = λ cuts. no-trace cuts .number ∙ number;
+        cuts-arena = λ cuts. no-trace cuts .arena (λ e. omega (arith, number));
         cuts-handle = λ cuts. no-trace cuts .handle;
       }
         where

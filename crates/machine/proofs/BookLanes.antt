@@ -12,29 +12,22 @@ use borrow.Author.Tests.{lt-ltb, le-ltb}
 use Rattle.format.specs.Tests.{some}
 use Rattle.format.proofs.Tests.{by-bool, and-elim, some-intro, some-found}
 use Rattle.machine.specs.declared.lane.Lane.{Lane}
-use Rattle.machine.specs.Lane.{startedLane, writeStores}
+use Rattle.machine.specs.Lane.{startedLane, laneAfter, writeStores}
 use Rattle.machine.specs.Handle.{laneAt}
 use Rattle.machine.specs.Flog.{mapBlock}
-use Rattle.machine.specs.Opening.{layoutIn}
+use Rattle.machine.specs.Opening.{layoutIn, foundLane}
 use Rattle.machine.specs.Writing.{laneStored, inFlight}
-use Rattle.machine.specs.Book.{Entry, inFlightYet, laneFlies, sectorFlies, planIn, movedOn}
+use Rattle.machine.specs.Book.{Entry, inFlightYet, laneFlies, sectorFlies, movedOn}
 use Rattle.machine.specs.DemandThree.{Differ}
 use Rattle.machine.proofs.Steps.{stored-more, stored-last}
-use Rattle.machine.proofs.Entries.{same-entry, any-some, any-false, lane-none, lane-test, retally}
+use Rattle.machine.proofs.Entries.{entryOf, same-entry, any-some, any-false, lane-none, lane-test, retally}
 use Rattle.machine.proofs.FirstArena.{AsFound}
 
 module _ (a : List ℕ) where
   -- a write in flight
   abbrev pub flyingLane : Entry → Lane
-  flyingLane e = let p = planIn a e in record {
-    busy = true;
-    block = record { 0 = p .new };
-    half = p .half;
-    sequence = record { 0 = p .sequence };
-    sector = record { 0 = e .sector };
-    old = record { 0 = p .old };
-    made = e .tally;
-  }
+  flyingLane e =
+      laneAfter (startedLane (foundLane (layoutIn a) a (e .lane)) (e .sector) (mapBlock (layoutIn a) a (e .sector))) (e .tally)
 
   -- the lane's record by the write's tally
   unfoldable pub laneWith : Entry → Lane
@@ -54,10 +47,10 @@ module _ (a : List ℕ) where
 
   -- a start on a lane that is as opening finds it
   pub lane-started : (l s : ℕ) (r : Lane) → AsFound a l r
-      → startedLane r s (mapBlock (layoutIn a) a s) ≡ laneWith (record { lane = l; sector = s; tally = 0 })
+      → startedLane r s (mapBlock (layoutIn a) a s) ≡ laneWith (entryOf l s 0)
   lane-started l s r f =
       sym (ap (λ (q : Lane). startedLane q s (mapBlock (layoutIn a) a s)) (f .is))
-      ∙ sym (lane-flying (record { lane = l; sector = s; tally = 0 }) (lt-ltb 0 (writeStores (layoutIn a)) (omega arith)))
+      ∙ sym (lane-flying (entryOf l s 0) (lt-ltb 0 (writeStores (layoutIn a)) (omega arith)))
 
   -- one more store
   abbrev stepped : Entry → Entry

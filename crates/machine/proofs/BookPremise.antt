@@ -1,33 +1,42 @@
--- A list whose accepted calls are new to the book: the calls answer as the book does, so the writes that it starts share neither a lane
--- nor a sector, and an opening after it mends the book's writes that lack only their map word.
-use mathlib.Core.Path.{_≡_, refl, sym, ap, _∙_}
+-- A list whose accepted calls are new to the book meets the premises of demand 3: the calls answer as the book does, so the writes that it
+-- starts share neither a lane nor a sector.
+use mathlib.Core.Path.{_≡_, refl, sym, _∙_}
 use mathlib.Core.Logic.{_≢_, ⊎-elim}
-use mathlib.Core.List.{List, [], _∷_, _++_, List·Memᴰ, List·Memᴰ·head, List·Memᴰ·tail, List·Memᴰ·not-nil, List·Memᴰ·eq-of-singleton, List·Memᴰ·append-cases, Memᴰ·map}
+use mathlib.Core.List.{
+  List,
+  [],
+  _∷_,
+  _++_,
+  List·Memᴰ,
+  List·Memᴰ·head,
+  List·Memᴰ·tail,
+  List·Memᴰ·not-nil,
+  List·Memᴰ·eq-of-singleton,
+  List·Memᴰ·append-cases,
+  Memᴰ·map,
+}
 use mathlib.Core.Bool.{cond}
-use Prim.Native.Nat.{ℕ, zero, suc, _≤_}
+use Prim.Native.Nat.{ℕ, zero, suc}
 use native.Mathlib.Omega.{arith}
 use lib.Dec.{eqb}
-use lib.ListN.{length}
 use borrow.Author.Tests.{ne-eqb}
 use Rattle.machine.specs.Lane.{writeStores}
-use Rattle.machine.specs.Opening.{figuresIn, layoutIn, openOf}
-use Rattle.machine.specs.History.{Call, read, start, step, write, State, Reply, reply, after, run, SmallCalls}
-use Rattle.machine.specs.Book.{Entry, bookNumber, noted, bookNext, bookAfter, bookReply, lastWords}
+use Rattle.machine.specs.Opening.{layoutIn}
+use Rattle.machine.specs.History.{Call, read, start, step, write, State, reply, after, run, SmallCalls}
+use Rattle.machine.specs.Book.{Entry, bookNumber, noted, bookNext, bookAfter}
 use Rattle.machine.specs.DemandThree.{Differ, begins, begun, lends, Lends}
-use Rattle.machine.proofs.Good.{good-number}
-use Rattle.machine.proofs.Entries.{Far, retally, oneMore, tallied-is}
-use Rattle.machine.proofs.FirstArena.{First, held-inv}
-use Rattle.machine.proofs.Sim.{Sim, reply-is}
+use Rattle.machine.proofs.Entries.{entryOf, Unused, Far, retally, oneMore, tallied-is}
+use Rattle.machine.proofs.FirstArena.{First}
+use Rattle.machine.proofs.Sim.{Sim, number-of}
 use Rattle.machine.proofs.SimCalls.{Fresh, sim-next}
 use Rattle.machine.proofs.SimRun.{Apart, sim-run}
-use Rattle.machine.proofs.LastWords.{pending-last}
 
 -- the write that an accepted call begins
 abbrev Begins : Call → Entry → Type 0
 Begins (read s buffer) e = ⊥
-Begins (start l s) e = e ≡ record { lane = l; sector = s; tally = 0 }
+Begins (start l s) e = e ≡ entryOf l s 0
 Begins (step l buffer) e = ⊥
-Begins (write l s buffer) e = e ≡ record { lane = l; sector = s; tally = 0 }
+Begins (write l s buffer) e = e ≡ entryOf l s 0
 
 begins-out : (n : ℕ) (c : Call) (e : Entry) → List·Memᴰ e (begins n c) → (n ≡ 0) × Begins c e
 begins-out zero (read s buffer) e m = absurd (List·Memᴰ·not-nil m)
@@ -95,25 +104,11 @@ module _ (a : List ℕ) (bytes : ℕ → List ℕ) where
       go (suc n) f = f d (rw (ne-eqb (suc n) 0 (λ p. omega arith)) m)
 
   module _ (x : First a) (b : List Entry) (y : State) (z : Sim a bytes b y) where
-    -- the calls that are no reads, whose numbers are the book's
-    abbrev Writes : Call → Type 0
-    Writes (read s buffer) = ⊥
-    Writes (start l s) = Unit {0}
-    Writes (step l buffer) = Unit {0}
-    Writes (write l s buffer) = Unit {0}
-
-    pub number-of : (c : Call) → Writes c → (reply y c) .number ≡ bookNumber a b c
-    unfolding bookReply
-    number-of (read s buffer) w = absurd w
-    number-of (start l s) w = ap (λ (r : Reply). r .number) (reply-is a bytes x b y z (start l s))
-    number-of (step l buffer) w = ap (λ (r : Reply). r .number) (reply-is a bytes x b y z (step l buffer))
-    number-of (write l s buffer) w = ap (λ (r : Reply). r .number) (reply-is a bytes x b y z (write l s buffer))
-
     lent : (c : Call) → (bookNumber a b c ≡ 0 → Fresh b c × lends bytes c) → (reply y c) .number ≡ 0 → lends bytes c
     lent (read s buffer) f e = tt
     lent (start l s) f e = tt
-    lent (step l buffer) f e = f (sym (number-of (step l buffer) tt) ∙ e) .1
-    lent (write l s buffer) f e = f (sym (number-of (write l s buffer) tt) ∙ e) .1
+    lent (step l buffer) f e = f (sym (number-of a bytes x b y z (step l buffer) tt) ∙ e) .1
+    lent (write l s buffer) f e = f (sym (number-of a bytes x b y z (write l s buffer) tt) ∙ e) .1
 
     -- a write that a call begins differs from the book's, and is in the next book
     record New (c : Call) (k : Entry) : Type 0 where
@@ -124,19 +119,19 @@ module _ (a : List ℕ) (bytes : ℕ → List ℕ) where
     unfolding noted
     new c f k m = let r = begins-out ((reply y c) .number) c k m in go c f (r .0) (r .1)
       where
-        one : (c : Call) (l s t : ℕ) → bookNext a b c ≡ record { lane = l; sector = s; tally = t } ∷ b → Fresh b (start l s)
-            → k ≡ record { lane = l; sector = s; tally = 0 } → New c k
+        one : (c : Call) (l s t : ℕ) → bookNext a b c ≡ entryOf l s t ∷ b → Unused b l s
+            → k ≡ entryOf l s 0 → New c k
         one c l s t p u q = record {
           before = λ d m. rw q (u d m);
-          then = λ e g. rw q (g (record { lane = l; sector = s; tally = t }) (rw p (List·Memᴰ·head refl)));
+          then = λ e g. rw q (g (entryOf l s t) (rw p (List·Memᴰ·head refl)));
         }
 
         go : (c : Call) → (bookNumber a b c ≡ 0 → Fresh b c × lends bytes c) → (reply y c) .number ≡ 0 → Begins c k → New c k
         go (read s buffer) f p q = absurd q
-        go (start l s) f p q = let n = sym (number-of (start l s) tt) ∙ p in one (start l s) l s 0 (rw n) (f n .0) q
+        go (start l s) f p q = let n = sym (number-of a bytes x b y z (start l s) tt) ∙ p in one (start l s) l s 0 (rw n) (f n .0) q
         go (step l buffer) f p q = absurd q
         go (write l s buffer) f p q =
-            let n = sym (number-of (write l s buffer) tt) ∙ p in
+            let n = sym (number-of a bytes x b y z (write l s buffer) tt) ∙ p in
             one (write l s buffer) l s (writeStores (layoutIn a)) (rw n) (f n .0) q
 
   -- ---- the list
@@ -162,16 +157,3 @@ module _ (a : List ℕ) (bytes : ℕ → List ℕ) where
   orderly-sim x cs b y z small o =
       let p = orderly-premise x cs b y z small o in
       sim-run a bytes x cs b y z small (p .0) (p .1) (p .2) .1
-
-  -- ---- an opening after it
-
-  pub sim-mended : (b : List Entry) (y : State) → Sim a bytes b y → (work : List ℕ) → (figuresIn a) .blocks ≤ length work
-      → (openOf (y .arena) work) .mended ≡ length (lastWords a b)
-  unfolding openOf
-  sim-mended b y z work room =
-      rw (good-number (y .arena) (y .handle .figures) (y .handle .lanes) (z .held .good) work (rw (z .figures) room), same)
-      (pending-last a b (z .ok .differ) (y .arena) (y .handle .lanes) (rw same at (held-inv (y .arena) (y .handle) (z .held))) (z .lanes)
-      (λ e m. z .ok .each e m .lane-in))
-    where
-      same : figuresIn (y .arena) ≡ figuresIn a
-      same = z .held .good .figures ∙ z .figures

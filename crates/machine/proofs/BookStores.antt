@@ -24,6 +24,7 @@ use native.Mathlib.Omega.{arith}
 use native.Mathlib.Decide.{decLt}
 use lib.ListN.{length}
 use Rattle.words.specs.Word.{word}
+use Rattle.format.proofs.Tests.{true-false}
 use Rattle.layout.specs.Place.{Place, InRange, inData, inMap, at}
 use Rattle.layout.proofs.Place.{at-inj}
 use Rattle.machine.specs.Lane.{writeStores}
@@ -34,10 +35,11 @@ use Rattle.machine.specs.Valid.{Small}
 use Rattle.machine.specs.Writing.{storeAt}
 use Rattle.machine.specs.Book.{Entry, planIn, storesIn, kept}
 use Rattle.machine.specs.DemandThree.{Differ, Same, ShareNone}
+use Rattle.machine.proofs.Members.{Each}
 use Rattle.machine.proofs.Once.{free-apart, free-unmapped}
-use Rattle.machine.proofs.Stores.{Fits, Each, Agree, any-order, word-miss, word-hit}
+use Rattle.machine.proofs.Stores.{Fits, Agree, any-order, word-miss, word-hit}
 use Rattle.machine.proofs.StoreKinds.{Kind, isData, isLog, isMap, kind, PlanOk, store-fits, store-range}
-use Rattle.machine.proofs.WritePlaces.{bad, place-once, place-apart, first-in, first-out}
+use Rattle.machine.proofs.WritePlaces.{place-once, place-apart, first-in, first-out}
 use Rattle.machine.proofs.Entries.{Far, differ-pair, retally}
 use Rattle.machine.proofs.FirstArena.{First}
 
@@ -48,6 +50,10 @@ module _ (a : List ℕ) (bytes : ℕ → List ℕ) where
   abbrev pub storeOf : Entry → ℕ → Store
   storeOf e k = storeAt (layoutIn a) (planIn a e) (bytes (e .lane)) k
 
+  -- the first arena with a book's stores put in
+  abbrev pub booked : List Entry → List ℕ
+  booked b = putAll (layoutIn a) (kept a bytes b) a
+
   pub record KeptAs (b : List Entry) (st : Store) : Type 0 where
     pub entry : Entry
     pub member : List·Memᴰ entry b
@@ -55,12 +61,15 @@ module _ (a : List ℕ) (bytes : ℕ → List ℕ) where
     pub early : number < entry .tally
     pub is : st ≡ storeOf entry number
 
-  pub kept-in : (b : List Entry) (e : Entry) → List·Memᴰ e b → (k : ℕ) → k < e .tally → List·Memᴰ (storeOf e k) (kept a bytes b)
+  kept-in : (b : List Entry) (e : Entry) → List·Memᴰ e b → (k : ℕ) → k < e .tally → List·Memᴰ (storeOf e k) (kept a bytes b)
   unfolding kept
   kept-in b e (List·Memᴰ·head {x = d} p) k u =
       Memᴰ·append-left _ (Memᴰ·cast (ap (λ (y : Entry). storeOf y k) p)
       (first-in (layoutIn a) (planIn a d) (bytes (d .lane)) (d .tally) k (subst (λ (y : Entry). k < y .tally) p u)))
   kept-in b e (List·Memᴰ·tail {x = d} {xs = c} m) k u = Memᴰ·append-right (storesIn a bytes d (d .tally)) (kept-in c e m k u)
+
+  pub kept-from : (b : List Entry) (st : Store) → KeptAs b st → List·Memᴰ st (kept a bytes b)
+  kept-from b st r = Memᴰ·cast (r .is) (kept-in b (r .entry) (r .member) (r .number) (r .early))
 
   kept-out : (b : List Entry) (st : Store) → List·Memᴰ st (kept a bytes b) → KeptAs b st
   unfolding kept
@@ -174,41 +183,41 @@ module _ (a : List ℕ) (bytes : ℕ → List ℕ) where
 
       -- in any order
       pub kept-order : (stores : List Store) → Same stores (kept a bytes b)
-          → putAll (layoutIn a) (kept a bytes b) a ≡ putAll (layoutIn a) stores a
+          → booked b ≡ putAll (layoutIn a) stores a
       kept-order stores s = any-order (layoutIn a) (x .ok) (kept a bytes b) stores a (x .arena) kept-fits kept-agree (s .from) (s .to)
 
       -- a store that was made
       pub kept-here : (e : Entry) → List·Memᴰ e b → (k : ℕ) → k < e .tally
-          → word (putAll (layoutIn a) (kept a bytes b) a) (at (layoutIn a) ((storeOf e k) .place)) ≡ (storeOf e k) .value
+          → word (booked b) (at (layoutIn a) ((storeOf e k) .place)) ≡ (storeOf e k) .value
       kept-here e m k u = word-hit (layoutIn a) (x .ok) (kept a bytes b) a (x .arena) kept-fits kept-agree (storeOf e k) (kept-in b e m k u)
 
       -- a place that no write has stored to
-      kept-away : (p : Place) → InRange (layoutIn a) p → ((e : Entry) → List·Memᴰ e b → (k : ℕ) → k < e .tally → (storeOf e k) .place ≢ p)
-          → word (putAll (layoutIn a) (kept a bytes b) a) (at (layoutIn a) p) ≡ word a (at (layoutIn a) p)
+      kept-away : (p : Place) → InRange (layoutIn a) p
+          → ((e : Entry) → List·Memᴰ e b → (k : ℕ) → k < e .tally → (storeOf e k) .place ≡ p → Kind (layoutIn a) (planIn a e) (bytes (e .lane)) k → ⊥)
+          → word (booked b) (at (layoutIn a) p) ≡ word a (at (layoutIn a) p)
       kept-away p v n = word-miss (layoutIn a) (x .ok) (kept a bytes b) a (at (layoutIn a) p)
           (λ st m z. let r = kept-out b st m in
           n (r .entry) (r .member) (r .number) (r .early)
-          (rw (r .is) at (at-inj (layoutIn a) (x .ok) (st .place) p (kept-fits st m .range) v z)))
+          (rw (r .is) at (at-inj (layoutIn a) (x .ok) (st .place) p (kept-fits st m .range) v z))
+          (kind (layoutIn a) _ _ (r .number) (late (r .entry) (r .member) (r .number) (r .early))))
 
       -- the map word of a sector whose write, if any, has not stored it
       pub kept-map : (s : ℕ) → s < (layoutIn a) .E
           → ((e : Entry) → List·Memᴰ e b → e .sector ≡ s → e .tally < writeStores (layoutIn a))
-          → mapWord (layoutIn a) (putAll (layoutIn a) (kept a bytes b) a) s ≡ mapWord (layoutIn a) a s
-      kept-map s u n = kept-away (inMap s) u
-          (λ e m k v z. go e m k v z (kind (layoutIn a) (planIn a e) (bytes (e .lane)) k (late e m k v)))
+          → mapWord (layoutIn a) (booked b) s ≡ mapWord (layoutIn a) a s
+      kept-map s u n = kept-away (inMap s) u go
         where
           go : (e : Entry) → List·Memᴰ e b → (k : ℕ) → k < e .tally → (storeOf e k) .place ≡ inMap s
               → Kind (layoutIn a) (planIn a e) (bytes (e .lane)) k → ⊥
-          go e m k v z (isData _ y) = bad (cc)
-          go e m k v z (isLog j _ _ y) = bad (cc)
+          go e m k v z (isData _ y) = true-false (cc)
+          go e m k v z (isLog j _ _ y) = true-false (cc)
           go e m k v z (isMap i y) = omega (arith, n e m (cc))
 
       -- the words of a block that is mapped in the first arena: every write has its own free block
       pub kept-data : (s : ℕ) → s < (layoutIn a) .E → (k : ℕ) → k < (layoutIn a) .W
-          → word (putAll (layoutIn a) (kept a bytes b) a) (at (layoutIn a) (inData (mapBlock (layoutIn a) a s) k))
+          → word (booked b) (at (layoutIn a) (inData (mapBlock (layoutIn a) a s) k))
           ≡ word a (at (layoutIn a) (inData (mapBlock (layoutIn a) a s) k))
-      kept-data s u i w = kept-away (inData (mapBlock (layoutIn a) a s) i) (x .map-in s u, w)
-          (λ e m k v z. go e m k v z (kind (layoutIn a) (planIn a e) (bytes (e .lane)) k (late e m k v)))
+      kept-data s u i w = kept-away (inData (mapBlock (layoutIn a) a s) i) (x .map-in s u, w) go
         where
           go : (e : Entry) → List·Memᴰ e b → (k : ℕ) → k < e .tally → (storeOf e k) .place ≡ inData (mapBlock (layoutIn a) a s) i
               → Kind (layoutIn a) (planIn a e) (bytes (e .lane)) k → ⊥
@@ -216,8 +225,8 @@ module _ (a : List ℕ) (bytes : ℕ → List ℕ) where
               let g = layoutIn a in
               let l = o .each e m .lane-in in
               free-unmapped (g .I) (g .E) (g .N) (mapBlock g a) (freeOf g a) (x .once) s (e .lane) u l (x .free-in (e .lane) l) (cc)
-          go e m k v z (isLog j _ _ y) = bad (cc)
-          go e m k v z (isMap _ y) = bad (cc)
+          go e m k v z (isLog j _ _ y) = true-false (cc)
+          go e m k v z (isMap _ y) = true-false (cc)
 
     -- ---- more tallies: the stores of the book with those that are added
 
@@ -225,7 +234,7 @@ module _ (a : List ℕ) (bytes : ℕ → List ℕ) where
         → ((e : Entry) → List·Memᴰ e b → e .tally ≤ t e)
         → ((e : Entry) → List·Memᴰ e b → (k : ℕ) → e .tally ≤ k → k < t e → List·Memᴰ (storeOf e k) extra)
         → ((st : Store) → List·Memᴰ st extra → KeptAs (map (retally t) b) st)
-        → putAll (layoutIn a) (kept a bytes (map (retally t) b)) a ≡ putAll (layoutIn a) (kept a bytes b ++ extra) a
+        → booked (map (retally t) b) ≡ putAll (layoutIn a) (kept a bytes b ++ extra) a
     kept-more t extra b o grows added known = kept-order (map (retally t) b) o (kept a bytes b ++ extra) (record { to = to; from = from })
       where
         to : (st : Store) → List·Memᴰ st (kept a bytes b ++ extra) → List·Memᴰ st (kept a bytes (map (retally t) b))
@@ -233,7 +242,7 @@ module _ (a : List ℕ) (bytes : ℕ → List ℕ) where
             (λ n. let r = kept-out b st n in
             Memᴰ·cast (r .is) (kept-in (map (retally t) b) (retally t (r .entry)) (Memᴰ·map (retally t) (r .member)) (r .number)
             (omega (arith, r .early, grows (r .entry) (r .member)))))
-            (λ n. let r = known st n in Memᴰ·cast (r .is) (kept-in (map (retally t) b) (r .entry) (r .member) (r .number) (r .early)))
+            (λ n. kept-from (map (retally t) b) st (known st n))
             (List·Memᴰ·append-cases (kept a bytes b) m)
 
         from : (st : Store) → List·Memᴰ st (kept a bytes (map (retally t) b)) → List·Memᴰ st (kept a bytes b ++ extra)

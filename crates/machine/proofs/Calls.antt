@@ -1,10 +1,11 @@
 -- What every call through a good handle keeps, accepted or refused: start, step and whole write leave an arena and a handle that are
--- good again, with the same length and figures. Rule 16 never applies to such a handle.
+-- good again. Rules 16 and 7 never apply to such a handle.
 use mathlib.Core.Path.{_≡_, refl, sym, _∙_}
 use mathlib.Core.Logic.{_≢_}
 use mathlib.Core.List.{List}
 use mathlib.Core.Bool.{Bool, true, false, cond, not, _&&_}
-use Prim.Native.Nat.{ℕ, zero, suc, _<_}
+use Prim.Native.Nat.{ℕ, zero, suc, _*_, _<_}
+use native.Mathlib.Omega.{arith}
 use lib.Dec.{eqb, leb}
 use lib.ListN.{length}
 use borrow.Author.Tests.{leb-false, eqb-true, eq-eqb, not-false}
@@ -14,6 +15,7 @@ use Rattle.format.proofs.Tests.{true-false, and-intro, every-intro, some-elim}
 use Rattle.format.proofs.MapWord.{badWord-false}
 use Rattle.layout.specs.Place.{layoutOf, at}
 use Rattle.layout.specs.declared.Figures.{Figures}
+use Rattle.layout.proofs.Allowed.{allowed-of, size-words}
 use Rattle.machine.specs.declared.lane.Lane.{Lane}
 use Rattle.machine.specs.declared.handle.Handle.{Handle}
 use Rattle.machine.specs.Lane.{laneAllowed, startedLane, writeStores}
@@ -92,6 +94,13 @@ module _ (a : List ℕ) (h : Handle) (k : Held a h) where
   held-word s u =
       badWord-false (h .figures .blocks) s (mapWord (layoutOf (h .figures)) a s)
       (blocks-out (h .figures) _ (k .good .inv .map-in s (sectors-in (h .figures) s u)))
+
+  -- a sector is whole words
+  pub held-whole : h .figures .size ≡ 4 * (layoutOf (h .figures)) .W
+  unfolding layoutOf
+  held-whole =
+      let z = size-words (h .figures) (length a) (allowed-of (h .figures) (length a) (good-figures a (h .figures) (h .lanes) (k .good))) in
+      omega (arith, z .0)
 
 -- ---- what an accepted call found
 
@@ -200,62 +209,3 @@ good-write a h l s buffer small k = go (eqb (writeNumber a h l s buffer) 0)
     go : (t : Bool) → Held (cond t (e .arena) a) (cond t (e .handle) h)
     go true = good-steps (writeStores (layoutOf (h .figures))) (o .arena) (o .handle) l buffer small (good-start a h l s k)
     go false = k
-
--- ---- the length of the arena and the figures of the handle never change, of whatever handle
-
-pub record SameShape (a : List ℕ) (h : Handle) (o : Outcome) : Type 0 where
-  pub size : length (o .arena) ≡ length a
-  pub figures : o .handle .figures ≡ h .figures
-
-pub start-shape : (a : List ℕ) (h : Handle) (l s : ℕ) → SameShape a h (startOf a h l s)
-unfolding startOf
-start-shape a h l s = record { size = refl; figures = go (eqb (startNumber a h l s) 0) }
-  where
-    go : (t : Bool) → (cond t (withLane h l (startedLane (laneAt (h .lanes) l) s (mapBlock (layoutOf (h .figures)) a s))) h) .figures ≡ h .figures
-    go true = refl
-    go false = refl
-
-pub step-shape : (a : List ℕ) (h : Handle) (l : ℕ) (buffer : List ℕ) → SameShape a h (stepOf a h l buffer)
-unfolding stepOf
-step-shape a h l buffer = record { size = same (eqb (stepNumber a h l buffer) 0); figures = go (eqb (stepNumber a h l buffer) 0) }
-  where
-    st : Store
-    st = storeAt (layoutOf (h .figures)) (planOf l (laneAt (h .lanes) l)) buffer ((laneAt (h .lanes) l) .made)
-
-    same : (t : Bool) → length (cond t (stored (layoutOf (h .figures)) st a) a) ≡ length a
-    same true = length-putWord a (at (layoutOf (h .figures)) (st .place)) (st .value)
-    same false = refl
-
-    go : (t : Bool) → (cond t (withLane h l (laneStored (layoutOf (h .figures)) (laneAt (h .lanes) l))) h) .figures ≡ h .figures
-    go true = refl
-    go false = refl
-
-pub steps-shape : (n : ℕ) (a : List ℕ) (h : Handle) (l : ℕ) (buffer : List ℕ) → SameShape a h (stepsOf n a h l buffer)
-unfolding stepsOf
-steps-shape zero a h l buffer = record { size = refl; figures = refl }
-steps-shape (suc n) a h l buffer =
-    let o = stepsOf n a h l buffer in
-    let p = steps-shape n a h l buffer in
-    let q = step-shape (o .arena) (o .handle) l buffer in
-    record { size = q .size ∙ p .size; figures = q .figures ∙ p .figures }
-
-pub write-shape : (a : List ℕ) (h : Handle) (l s : ℕ) (buffer : List ℕ) → SameShape a h (writeOf a h l s buffer)
-unfolding writeOf
-write-shape a h l s buffer = record { size = same (eqb (writeNumber a h l s buffer) 0); figures = go (eqb (writeNumber a h l s buffer) 0) }
-  where
-    o : Outcome
-    o = startOf a h l s
-
-    e : Outcome
-    e = stepsOf (writeStores (layoutOf (h .figures))) (o .arena) (o .handle) l buffer
-
-    all : SameShape (o .arena) (o .handle) e
-    all = steps-shape (writeStores (layoutOf (h .figures))) (o .arena) (o .handle) l buffer
-
-    same : (t : Bool) → length (cond t (e .arena) a) ≡ length a
-    same true = all .size ∙ start-shape a h l s .size
-    same false = refl
-
-    go : (t : Bool) → (cond t (e .handle) h) .figures ≡ h .figures
-    go true = all .figures ∙ start-shape a h l s .figures
-    go false = refl

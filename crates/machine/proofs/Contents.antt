@@ -83,3 +83,8 @@ module _ (f : Figures) (ok : LayoutOk (layoutOf f)) (whole : f .size ≡ 4 * (la
   content-mapped a r s b u m bytes small size w =
       let c : b < 1073741824 = omega (arith, ok .small) in
       rw (m, flags-mapped b c, block-mapped s b c) (ap holds (bytes-are a r b u bytes small size w))
+
+-- a sector of which the map word is zero
+pub content-zero : (f : Figures) (a : List ℕ) (s : ℕ) → mapWord (layoutOf f) a s ≡ 0 → contentOf f a s ≡ holds (replicate (f .size) 0)
+unfolding contentOf
+content-zero f a s e = rw e

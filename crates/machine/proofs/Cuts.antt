@@ -10,7 +10,7 @@ use lib.Dec.{eqb, ltb}
 use lib.ListN.{length, take}
 use borrow.Author.Tests.{eqb-true}
 use Rattle.machine.specs.Stores.{Store, putAll}
-use Rattle.machine.specs.Opening.{layoutIn, mends, mended, openNumber, openOf, cutOpenOf}
+use Rattle.machine.specs.Opening.{layoutIn, mends, openNumber, openOf, cutOpenOf}
 use Rattle.machine.specs.Valid.{Small}
 use Rattle.machine.specs.Claims.{Cut, afterCuts, CutsLeaveNoTrace}
 use Rattle.machine.proofs.Mends.{mends-take}
@@ -54,25 +54,25 @@ cut-is a w k = go (eqb (openNumber a (length w)) 0)
 
 module _ (work : List ℕ) where
   -- an arena mended for some lanes opens as it did
-  same-number : (a : List ℕ) (o : Opens a) (s : Small a) (n : ℕ) (u : n ≤ (layoutIn a) .N)
-      → (openOf (putAll (layoutIn a) (mends (layoutIn a) a n) a) work) .number ≡ (openOf a work) .number
-  unfolding openOf
-  same-number a o s n u = kept-number a o s n u (length work)
+  module _ (a : List ℕ) (o : Opens a) (s : Small a) (n : ℕ) (u : n ≤ (layoutIn a) .N) where
+    abbrev A : List ℕ
+    A = putAll (layoutIn a) (mends (layoutIn a) a n) a
 
-  same-arena : (a : List ℕ) (o : Opens a) (s : Small a) (n : ℕ) (u : n ≤ (layoutIn a) .N) → (openOf a work) .number ≡ 0
-      → (openOf (putAll (layoutIn a) (mends (layoutIn a) a n) a) work) .arena ≡ (openOf a work) .arena
-  unfolding openOf
-  same-arena a o s n u e = rw (kept-number a o s n u (length work), e) (kept-mended a o s n u)
+    same-number : (openOf A work) .number ≡ (openOf a work) .number
+    unfolding openOf
+    same-number = kept-number a o s n u (length work)
 
-  same-handle : (a : List ℕ) (o : Opens a) (s : Small a) (n : ℕ) (u : n ≤ (layoutIn a) .N)
-      → (openOf (putAll (layoutIn a) (mends (layoutIn a) a n) a) work) .handle ≡ (openOf a work) .handle
-  unfolding openOf
-  same-handle a o s n u = rw (kept-number a o s n u (length work), kept-handle a o s n u)
+    same-arena : (openOf a work) .number ≡ 0 → (openOf A work) .arena ≡ (openOf a work) .arena
+    unfolding openOf
+    same-arena e = rw (kept-number a o s n u (length work), e) (kept-mended a o s n u)
 
-  same-work : (a : List ℕ) (o : Opens a) (s : Small a) (n : ℕ) (u : n ≤ (layoutIn a) .N)
-      → (openOf (putAll (layoutIn a) (mends (layoutIn a) a n) a) work) .work ≡ (openOf a work) .work
-  unfolding openOf
-  same-work a o s n u = kept-work a o s n u work
+    same-handle : (openOf A work) .handle ≡ (openOf a work) .handle
+    unfolding openOf
+    same-handle = rw (kept-number a o s n u (length work), kept-handle a o s n u)
+
+    same-work : (openOf A work) .work ≡ (openOf a work) .work
+    unfolding openOf
+    same-work = kept-work a o s n u work
 
   -- an arena that opens is refused only for want of room
   room-for : (a : List ℕ) → Opens a → (openOf a work) .number ≢ 5 → (openOf a work) .number ≡ 0

@@ -9,22 +9,17 @@ use native.Mathlib.Omega.{arith}
 use lib.Dec.{eqb, ltb}
 use lib.ListN.{length, take, drop}
 use Rattle.format.proofs.Tests.{by-bool}
-use Rattle.format.proofs.Below.{below-take, below-drop}
 use Rattle.layout.specs.Figures.{lengthAllowed}
-use Rattle.infoblock.specs.Info.{sound, infoBlockOf, infoAllowed, flagsField}
-use Rattle.infoblock.proofs.InfoBlock.{info-in, counting-main, counting-copy, counting-none}
+use Rattle.infoblock.specs.Info.{infoBlockOf, infoAllowed, flagsField}
+use Rattle.infoblock.proofs.InfoBlock.{info-in, counting-main, counting-copy}
 use Rattle.machine.specs.Opening.{layoutIn, openNumber, openOf, cutOpenOf}
 use Rattle.machine.specs.Valid.{Small, LengthOk, Sound}
 use Rattle.machine.specs.DemandOne.{InfoBlockShown, CutOpening, DemandOne}
-use Rattle.machine.proofs.Reflect.{length-ok, ok-length, sound-ok, ok-sound, none-sound}
+use Rattle.machine.proofs.Reflect.{length-ok, ok-length, ok-sound, main-unsound, none-counts, none-sound}
 use Rattle.machine.proofs.Opens.{lanesLost, wordBad, unsettled}
 use Rattle.machine.proofs.Making.{making-claim}
-use Rattle.machine.proofs.Claim.{opening-claim}
+use Rattle.machine.proofs.Opening.{opening-claim}
 use Rattle.machine.proofs.Running.{running-claim}
-
--- tests false by what they would give
-unsound : (b : List ℕ) → Small b → (Sound b → ⊥) → sound b ≡ false
-unsound b small n = by-bool (sound b) _ (λ e. absurd (n (sound-ok b small e))) (λ e. e)
 
 -- a length that is not allowed shows no block
 info-out : (a : List ℕ) → lengthAllowed (length a) ≡ false → infoBlockOf a ≡ []
@@ -43,17 +38,9 @@ later false false false false false true = ⊎-elim (λ e. omega arith) (λ e. o
 later false false false false false false = ⊎-elim (λ e. omega arith) (λ e. omega arith)
 
 module _ (a : List ℕ) (small : Small a) where
-  main-unsound : (Sound (take 4096 a) → ⊥) → sound (take 4096 a) ≡ false
-  main-unsound = unsound (take 4096 a) (below-take 256 4096 a (omega arith) small)
-
-  copy-unsound : (Sound (drop (length a - 4096) a) → ⊥) → sound (drop (length a - 4096) a) ≡ false
-  copy-unsound = unsound (drop (length a - 4096) a) (below-drop 256 (length a - 4096) a small)
-
   nothing : (LengthOk (length a) → ⊥) ⊎ ((Sound (take 4096 a) → ⊥) × (Sound (drop (length a - 4096) a) → ⊥)) → infoBlockOf a ≡ []
-  nothing c = by-bool (lengthAllowed (length a)) (infoBlockOf a ≡ []) (λ e. ⊎-elim (λ n. absurd (n (length-ok (length a) e))) (both e) c) (info-out a)
-    where
-      both : lengthAllowed (length a) ≡ true → (Sound (take 4096 a) → ⊥) × (Sound (drop (length a - 4096) a) → ⊥) → infoBlockOf a ≡ []
-      both e p = info-in a e ∙ counting-none _ _ (main-unsound (p .0)) (copy-unsound (p .1))
+  nothing c = by-bool (lengthAllowed (length a)) (infoBlockOf a ≡ [])
+      (λ e. ⊎-elim (λ n. absurd (n (length-ok (length a) e))) (λ p. none-counts a small e (p .0) (p .1)) c) (info-out a)
 
   under : (work : List ℕ) → ((openOf a work) .number ≡ 1) ⊎ ((openOf a work) .number ≡ 2) → infoBlockOf a ≡ []
   unfolding openOf openNumber
@@ -72,7 +59,7 @@ module _ (a : List ℕ) (small : Small a) where
   info-block : InfoBlockShown a
   info-block = record {
     main = λ l s. info-in a (ok-length (length a) l) ∙ counting-main _ _ (ok-sound _ s);
-    copy = λ l n s. info-in a (ok-length (length a) l) ∙ counting-copy _ _ (main-unsound n) (ok-sound _ s);
+    copy = λ l n s. info-in a (ok-length (length a) l) ∙ counting-copy _ _ (main-unsound a small n) (ok-sound _ s);
     none = nothing;
     under = under;
     only = only;

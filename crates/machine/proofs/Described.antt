@@ -1,14 +1,16 @@
--- An arena that passes rules 1 to 4: its layout is sound, and stores at places leave its info block alone.
+-- An arena that passes rules 1 to 4: its layout is sound, and stores at places leave its info block alone, since every place lies between
+-- the two info blocks.
 use mathlib.Core.Path.{_≡_}
 use mathlib.Core.Logic.{_⊎_, inl, inr}
 use mathlib.Core.List.{List}
 use mathlib.Core.Bool.{true, false}
-use Prim.Native.Nat.{ℕ, _+_, _*_, _≤_, _<_}
+use Prim.Native.Nat.{ℕ, _+_, _*_, _%_, _≤_, _<_}
 use native.Mathlib.Omega.{arith}
 use lib.Dec.{eqb}
 use lib.ListN.{length}
 use Rattle.layout.specs.Figures.{lengthAllowed, Allowed}
-use Rattle.layout.specs.Place.{Layout, LayoutOk, InRange, at}
+use Rattle.layout.specs.Place.{Layout, LayoutOk, InRange, layoutOf}
+use Rattle.layout.specs.declared.Figures.{Figures}
 use Rattle.infoblock.specs.Info.{infoBlockOf, headerAllowed, infoAllowed, flagsField}
 use Rattle.format.proofs.Tests.{and-elim}
 use Rattle.layout.proofs.Place.{at-inside}
@@ -17,7 +19,14 @@ use Rattle.infoblock.proofs.InfoBlock.{length-of, info-local}
 use Rattle.machine.specs.Stores.{Store, putAll}
 use Rattle.machine.specs.Opening.{figuresIn, layoutIn}
 use Rattle.machine.specs.Valid.{Small}
-use Rattle.machine.proofs.Stores.{Each, Arena, putAll-length, putAll-arena, word-miss}
+use Rattle.machine.proofs.Members.{Each}
+use Rattle.machine.proofs.Stores.{Arena, putAll-length, putAll-arena, word-miss}
+
+-- bytes of a length for which the figures are allowed
+pub allowed-arena : (f : Figures) (a : List ℕ) → Allowed f (length a) → length a % 4096 ≡ 0 → Small a → Arena (layoutOf f) a
+allowed-arena f a ok whole small =
+    let e = layout-exact f (length a) ok in
+    record { bytes = record { words = omega arith; small = small }; long = omega arith }
 
 pub record Described (a : List ℕ) : Type 0 where
   pub size : lengthAllowed (length a) ≡ true
@@ -36,13 +45,10 @@ module _ (a : List ℕ) (d : Described a) where
   described-exact = layout-exact (figuresIn a) (length a) described-figures
 
   pub described-arena : Small a → Arena (layoutIn a) a
-  described-arena small =
-      let e = described-exact in
-      let n = length-of (length a) (d .size) in
-      record { bytes = record { words = omega (arith, n .0); small = small }; long = omega arith }
+  described-arena = allowed-arena (figuresIn a) a described-figures (length-of (length a) (d .size) .0)
 
   -- stores at places leave both info blocks alone
-  pub info-kept : Small a → (ss : List Store) → Each (λ st. InRange (layoutIn a) (st .place)) ss
+  pub info-kept : Small a → (ss : List Store) → Each (λ (st : Store). InRange (layoutIn a) (st .place)) ss
       → infoBlockOf (putAll (layoutIn a) ss a) ≡ infoBlockOf a
   info-kept small ss r =
       info-local (putAll g ss a) a (putAll-length g ss a)

@@ -1,22 +1,23 @@
 -- Ending the writes that lack only their map word, in rising order of the lanes: the invariant is kept by each.
 -- A lane below n then has its settled record, and the others theirs.
-use mathlib.Core.Path.{_≡_, refl, sym, ap, _∙_, subst}
-use mathlib.Core.List.{List, [], _∷_, _++_, append-nil}
+use mathlib.Core.Path.{_≡_, refl, _∙_}
+use mathlib.Core.Logic.{_≢_}
+use mathlib.Core.List.{List}
 use mathlib.Core.Bool.{Bool, true, false, cond}
-use Prim.Native.Nat.{ℕ, zero, suc, _+_, _-_, _≤_, _<_}
+use Prim.Native.Nat.{ℕ, zero, suc, _+_, _≤_, _<_}
 use native.Mathlib.Omega.{arith}
 use native.Mathlib.Decide.{ℕ-discrete}
 use lib.ListN.{length, set, length-set}
 use borrow.Author.Tests.{ne-eqb}
+use Rattle.format.proofs.Tests.{by-bool}
 use Rattle.layout.specs.Place.{Layout}
 use Rattle.machine.specs.declared.lane.Lane.{Lane}
 use Rattle.machine.specs.Lane.{finishedLane}
 use Rattle.machine.specs.Handle.{laneAt}
 use Rattle.machine.specs.Stores.{stored, putAll}
-use Rattle.machine.proofs.Stores.{putAll-one}
 use Rattle.machine.proofs.Inv.{Inv, lane-same, lane-other}
 use Rattle.machine.proofs.Finish.{finalStore, finish}
-use Rattle.machine.proofs.Found.{ended, ended-true, settledLane, finals, busy-after}
+use Rattle.machine.proofs.Found.{ended, ended-true, settledLane, finals, finals-more, finals-same, busy-after}
 
 -- the records with the writes of the lanes below n ended, where they lack only that
 unfoldable pub finishLanes : Layout → List Lane → ℕ → List Lane
@@ -33,71 +34,56 @@ settled-ended g r = go (ended g r) refl
     go false e = e
 
 module _ (g : Layout) (lanes : List Lane) where
-  pub finish-length : (n : ℕ) → length (finishLanes g lanes n) ≡ length lanes
+  -- one lane more
+  finish-more : (n : ℕ) → ended g (laneAt lanes n) ≡ true
+      → finishLanes g lanes (suc n) ≡ set (finishLanes g lanes n) n (finishedLane (laneAt lanes n))
   unfolding finishLanes
-  finish-length zero = refl
-  finish-length (suc n) = go (ended g (laneAt lanes n)) (finish-length n)
-    where
-      go : (t : Bool) → length (finishLanes g lanes n) ≡ length lanes
-          → length (cond t (set (finishLanes g lanes n) n (finishedLane (laneAt lanes n))) (finishLanes g lanes n)) ≡ length lanes
-      go true e = length-set (finishLanes g lanes n) n (finishedLane (laneAt lanes n)) ∙ e
-      go false e = e
+  finish-more n e = rw e
+
+  finish-same : (n : ℕ) → ended g (laneAt lanes n) ≡ false → finishLanes g lanes (suc n) ≡ finishLanes g lanes n
+  unfolding finishLanes
+  finish-same n e = rw e
+
+  finish-length : (n : ℕ) → length (finishLanes g lanes n) ≡ length lanes
+  finish-length zero = unfold finishLanes in refl
+  finish-length (suc n) = by-bool (ended g (laneAt lanes n)) _
+      (λ t. rw (finish-more n t) (length-set (finishLanes g lanes n) n _ ∙ finish-length n)) (λ t. rw (finish-same n t) (finish-length n))
+
+  finish-other : (n l : ℕ) → l ≢ n → laneAt (finishLanes g lanes (suc n)) l ≡ laneAt (finishLanes g lanes n) l
+  finish-other n l d = by-bool (ended g (laneAt lanes n)) _
+      (λ t. rw (finish-more n t) (lane-other (finishLanes g lanes n) n _ l d)) (λ t. rw (finish-same n t))
 
   pub finish-later : (n l : ℕ) → n ≤ l → laneAt (finishLanes g lanes n) l ≡ laneAt lanes l
-  unfolding finishLanes
-  finish-later zero l u = refl
-  finish-later (suc n) l u = go (ended g (laneAt lanes n)) (finish-later n l (omega arith))
-    where
-      go : (t : Bool) → laneAt (finishLanes g lanes n) l ≡ laneAt lanes l
-          → laneAt (cond t (set (finishLanes g lanes n) n (finishedLane (laneAt lanes n))) (finishLanes g lanes n)) l ≡ laneAt lanes l
-      go true e = lane-other (finishLanes g lanes n) n (finishedLane (laneAt lanes n)) l (omega arith) ∙ e
-      go false e = e
+  finish-later zero l u = unfold finishLanes in refl
+  finish-later (suc n) l u = finish-other n l (λ e. omega arith) ∙ finish-later n l (omega arith)
+
+  finish-here : (n : ℕ) → n < length lanes → laneAt (finishLanes g lanes (suc n)) n ≡ settledLane g (laneAt lanes n)
+  unfolding settledLane
+  finish-here n u = by-bool (ended g (laneAt lanes n)) _
+      (λ t. rw (finish-more n t, t) (lane-same (finishLanes g lanes n) n _ (omega (arith, finish-length n))))
+      (λ t. rw (finish-same n t, t) (finish-later n n (omega arith)))
 
   pub finish-sooner : (n l : ℕ) → l < n → n ≤ length lanes → laneAt (finishLanes g lanes n) l ≡ settledLane g (laneAt lanes l)
-  unfolding finishLanes settledLane
   finish-sooner zero l u v = absurd (omega arith)
-  finish-sooner (suc n) l u v = go (ended g (laneAt lanes n)) refl (ℕ-discrete l n) (λ k. finish-sooner n l k (omega arith))
+  finish-sooner (suc n) l u v = go (ℕ-discrete l n) (λ k. finish-sooner n l k (omega arith))
     where
-      F : List Lane
-      F = finishLanes g lanes n
-
-      r : Lane
-      r = finishedLane (laneAt lanes n)
-
-      go : (t : Bool) → ended g (laneAt lanes n) ≡ t → Dec (l ≡ n) → (l < n → laneAt (finishLanes g lanes n) l ≡ settledLane g (laneAt lanes l))
-          → laneAt (cond t (set (finishLanes g lanes n) n (finishedLane (laneAt lanes n))) (finishLanes g lanes n)) l ≡ settledLane g (laneAt lanes l)
-      go true e (yes d) ih =
-          ap (laneAt (set F n r)) d ∙ lane-same F n r (omega (arith, finish-length n))
-          ∙ sym (ap (λ (x : ℕ). settledLane g (laneAt lanes x)) d ∙ rw e)
-      go true e (no d) ih = lane-other F n r l d ∙ ih (omega arith)
-      go false e (yes d) ih =
-          finish-later n l (omega arith) ∙ sym (ap (λ (x : ℕ). settledLane g (laneAt lanes x)) d ∙ rw e (ap (laneAt lanes) (sym d)))
-      go false e (no d) ih = ih (omega arith)
+      go : Dec (l ≡ n) → (l < n → laneAt (finishLanes g lanes n) l ≡ settledLane g (laneAt lanes l))
+          → laneAt (finishLanes g lanes (suc n)) l ≡ settledLane g (laneAt lanes l)
+      go (yes d) ih = rw d (finish-here n v)
+      go (no d) ih = finish-other n l d ∙ ih (omega arith)
 
 -- one after another
 module _ (g : Layout) (a : List ℕ) (lanes : List Lane) (i : Inv g a lanes) where
   pub finish-inv : (n : ℕ) → n ≤ g .N → Inv g (putAll g (finals g lanes n) a) (finishLanes g lanes n)
-  unfolding finals finishLanes putAll
-  finish-inv zero u = i
-  finish-inv (suc n) u = go (ended g (laneAt lanes n)) (ended-true g (laneAt lanes n)) (finish-inv n (omega arith))
+  finish-inv zero u = unfold finals finishLanes putAll in i
+  finish-inv (suc n) u =
+      let ih = finish-inv n (omega arith) in
+      by-bool (ended g (laneAt lanes n)) _
+      (λ t. rw (finals-more g lanes a n t, finish-more g lanes n t) (ends (ended-true g (laneAt lanes n) t) ih))
+      (λ t. rw (finals-same g lanes n t, finish-same g lanes n t) ih)
     where
-      A : List ℕ
-      A = putAll g (finals g lanes n) a
-
-      F : List Lane
-      F = finishLanes g lanes n
-
-      r : Lane
-      r = laneAt lanes n
-
-      go : (t : Bool) → (t ≡ true → (laneAt lanes n) .made ≡ g .W + 4) → Inv g (putAll g (finals g lanes n) a) (finishLanes g lanes n)
-          → Inv g (putAll g (finals g lanes n ++ cond t (finalStore (laneAt lanes n) ∷ []) []) a)
-          (cond t (set (finishLanes g lanes n) n (finishedLane (laneAt lanes n))) (finishLanes g lanes n))
-      go false f ih = rw (append-nil (finals g lanes n)) ih
-      go true f ih =
-          let later : laneAt F n ≡ r = finish-later g lanes n n (omega arith) in
-          let e : r .made ≡ g .W + 4 = f refl in
-          let b : (laneAt F n) .busy ≡ true = ap (λ (q : Lane). q .busy) later ∙ busy-after g a n r (i .lane n u) e in
-          let m : (laneAt F n) .made ≡ g .W + 4 = ap (λ (q : Lane). q .made) later ∙ e in
-          rw (putAll-one g (finals g lanes n) (finalStore r) a)
-          (subst (λ (q : Lane). Inv g (stored g (finalStore q) A) (set F n (finishedLane q))) later (finish g A F n ih u b m))
+      ends : (laneAt lanes n) .made ≡ g .W + 4 → Inv g (putAll g (finals g lanes n) a) (finishLanes g lanes n)
+          → Inv g (stored g (finalStore (laneAt lanes n)) (putAll g (finals g lanes n) a)) (set (finishLanes g lanes n) n (finishedLane (laneAt lanes n)))
+      ends m ih =
+          let same = finish-later g lanes n n (omega arith) in
+          rw same at (finish g (putAll g (finals g lanes n) a) (finishLanes g lanes n) n ih u (rw same (busy-after g a n _ (i .lane n u) m)) (rw same m))

@@ -10,6 +10,14 @@ use Rattle.format.proofs.Tests.{true-false, by-bool}
 use Rattle.machine.specs.Book.{Entry, anyEntry, tallied}
 use Rattle.machine.specs.DemandThree.{Differ}
 
+-- the write on lane l to sector s with t stores made
+abbrev pub entryOf : ℕ → ℕ → ℕ → Entry
+entryOf l s t = record { lane = l; sector = s; tally = t }
+
+-- no write of a book is on the lane or to the sector
+abbrev pub Unused : List Entry → ℕ → ℕ → Type 0
+Unused b l s = (d : Entry) → List·Memᴰ d b → (d .lane ≢ l) × (d .sector ≢ s)
+
 -- two writes share neither a lane nor a sector
 abbrev pub Far : Entry → Entry → Type 0
 Far e d = (e .lane ≢ d .lane) × (e .sector ≢ d .sector)

@@ -1,7 +1,7 @@
 -- The run of `Exhibited` in the book, for any arena with its figures: the calls one by one, and many steps of one lane by recursion.
 use mathlib.Core.Path.{_≡_, refl}
-use mathlib.Core.Logic.{_≢_, ⊎-elim}
-use mathlib.Core.List.{List, [], _∷_, _++_, List·Memᴰ·not-nil, List·Memᴰ·cases-cons}
+use mathlib.Core.Logic.{_≢_}
+use mathlib.Core.List.{List, [], _∷_, _++_}
 use mathlib.Core.Bool.{true, false, _&&_}
 use Prim.Native.Nat.{ℕ, zero, suc, _+_, _≤_, _<_}
 use native.Mathlib.Omega.{arith}
@@ -15,28 +15,20 @@ use Rattle.machine.specs.Lane.{writeStores}
 use Rattle.machine.specs.Opening.{figuresIn, layoutIn}
 use Rattle.machine.specs.History.{Call, read, start, step, write}
 use Rattle.machine.specs.Book.{Entry, anyEntry, inFlightYet, laneFlies, sectorFlies, bookNumber, tallied, noted, lastWords}
-use Rattle.machine.proofs.Entries.{any-none, lane-none}
+use Rattle.machine.proofs.Members.{each-none, each-more}
+use Rattle.machine.proofs.Entries.{entryOf, Unused, any-none, lane-none}
 use Rattle.machine.proofs.FirstArena.{First, first-word}
-use Rattle.machine.proofs.SimCalls.{Fresh}
 use Rattle.machine.proofs.BookPremise.{Goes, goes-none, goes-accepted, goes-refused, goes-append}
-
--- the write on lane l to sector s with t stores made
-abbrev pub entry : ℕ → ℕ → ℕ → Entry
-entry l s t = record { lane = l; sector = s; tally = t }
 
 -- lanes 0 and 1 with t and u stores made
 abbrev pub both : ℕ → ℕ → List Entry
-both t u = entry 1 8 u ∷ entry 0 7 t ∷ []
-
--- no write of the book is on the lane or to the sector
-abbrev Unused : List Entry → ℕ → ℕ → Type 0
-Unused b l s = Fresh b (start l s)
+both t u = entryOf 1 8 u ∷ entryOf 0 7 t ∷ []
 
 unused-none : (l s : ℕ) → Unused [] l s
-unused-none l s d m = absurd (List·Memᴰ·not-nil m)
+unused-none l s = each-none _
 
 unused-more : (b : List Entry) (l s : ℕ) (e : Entry) → e .lane ≢ l → e .sector ≢ s → Unused b l s → Unused (e ∷ b) l s
-unused-more b l s e p q u d m = ⊎-elim (λ r. rw r (p, q)) (u d) (List·Memᴰ·cases-cons m)
+unused-more b l s e p q u = each-more (λ (d : Entry). (d .lane ≢ l) × (d .sector ≢ s)) e b (p, q) u
 
 -- the calls of the run
 abbrev pub together : (ℕ → List ℕ) → List Call
@@ -99,7 +91,7 @@ module _ (a : List ℕ) (x : First a) (f : figuresIn a ≡ madeFigures 512 60 4)
   pub goes-together : Goes a bytes [] (together bytes) (both 132 1)
   unfolding noted tallied
   goes-together =
-      let n = unused-more [] 1 8 (entry 0 7 0) (λ p. omega arith) (λ p. omega arith) (unused-none 1 8) in
+      let n = unused-more [] 1 8 (entryOf 0 7 0) (λ p. omega arith) (λ p. omega arith) (unused-none 1 8) in
       goes-accepted a bytes _ _ (start 0 7) _ (start-done [] 0 7 (omega arith) (omega arith) (unused-none 0 7)) (unused-none 0 7) tt
       (goes-accepted a bytes _ _ (start 1 8) _ (start-done _ 1 8 (omega arith) (omega arith) n) n tt
       (goes-accepted a bytes _ _ (step 0 (bytes 0)) _ (step-done _ 0 (omega arith) (both-fly 0 0 (omega arith) (omega arith) .0)) tt refl
@@ -109,19 +101,19 @@ module _ (a : List ℕ) (x : First a) (f : figuresIn a ≡ madeFigures 512 60 4)
   pub then-refused : bookNumber a (both 132 1) (start 0 9) ≡ 12
   then-refused = start-busy (both 132 1) 0 9 (omega arith) (both-fly 132 1 (omega arith) (omega arith) .0)
 
-  goes-further : (buffer : List ℕ) → length buffer ≡ 512 → Goes a bytes (both 132 1) (further bytes buffer) (entry 2 10 133 ∷ both 132 1)
+  goes-further : (buffer : List ℕ) → length buffer ≡ 512 → Goes a bytes (both 132 1) (further bytes buffer) (entryOf 2 10 133 ∷ both 132 1)
   unfolding noted
   goes-further buffer e =
-      let n = unused-more (entry 0 7 132 ∷ []) 2 10 (entry 1 8 1) (λ p. omega arith) (λ p. omega arith)
-      (unused-more [] 2 10 (entry 0 7 132) (λ p. omega arith) (λ p. omega arith) (unused-none 2 10)) in
+      let n = unused-more (entryOf 0 7 132 ∷ []) 2 10 (entryOf 1 8 1) (λ p. omega arith) (λ p. omega arith)
+      (unused-more [] 2 10 (entryOf 0 7 132) (λ p. omega arith) (λ p. omega arith) (unused-none 2 10)) in
       goes-refused a bytes _ _ (start 0 9) _ (λ p. omega (arith, then-refused))
       (goes-accepted a bytes _ _ (read 7 buffer) _ (read-done _ 7 buffer (omega arith) e) tt tt
       (goes-accepted a bytes _ _ (write 2 10 (bytes 2)) _ (write-done _ 2 10 (omega arith) (omega arith) n) n refl (rw stores (goes-none a bytes _))))
 
-  pub goes-all : (buffer : List ℕ) → length buffer ≡ 512 → Goes a bytes [] (together bytes ++ further bytes buffer) (entry 2 10 133 ∷ both 132 1)
+  pub goes-all : (buffer : List ℕ) → length buffer ≡ 512 → Goes a bytes [] (together bytes ++ further bytes buffer) (entryOf 2 10 133 ∷ both 132 1)
   goes-all buffer e = goes-append a bytes (together bytes) (further bytes buffer) [] (both 132 1) _ goes-together (goes-further buffer e)
 
   -- one of the writes lacks only its map word
-  pub one-last : length (lastWords a (entry 2 10 133 ∷ both 132 1)) ≡ 1
+  pub one-last : length (lastWords a (entryOf 2 10 133 ∷ both 132 1)) ≡ 1
   unfolding lastWords
   one-last = rw stores

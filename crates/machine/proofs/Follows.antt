@@ -4,19 +4,13 @@ use mathlib.Core.Path.{_≡_, refl, sym, ap, ap₂, _∙_, subst}
 use mathlib.Core.List.{List, [], _∷_, List·Memᴰ·head, List·Memᴰ·tail}
 use mathlib.Core.Bool.{false}
 use Prim.Native.Nat.{ℕ, _≤_, _<_}
-use lib.Dec.{eqb}
-use lib.ListN.{length, replicate, length-replicate}
-use borrow.Author.Tests.{lt-leb, eq-eqb}
-use Rattle.format.specs.MapWord.{flagsOf, readingOf}
-use Rattle.format.proofs.Tests.{by-bool}
+use lib.ListN.{length, replicate}
 use Rattle.layout.specs.Place.{layoutOf}
 use Rattle.layout.specs.declared.Figures.{Figures}
 use Rattle.machine.specs.Handle.{laneAt}
-use Rattle.machine.specs.Stores.{Store, putAll}
-use Rattle.machine.specs.Flog.{mapWord}
-use Rattle.machine.specs.Opening.{figuresIn, openOf, handleFor}
+use Rattle.machine.specs.Opening.{figuresIn, openOf}
 use Rattle.machine.specs.Valid.{Small}
-use Rattle.machine.specs.Reading.{readNumber, readOf, blockBytes}
+use Rattle.machine.specs.Reading.{readOf}
 use Rattle.machine.specs.History.{
   State,
   Reply,
@@ -43,33 +37,23 @@ use Rattle.machine.specs.Row.{
   firstRow,
 }
 use Rattle.machine.specs.DemandTwo.{openedFrom, AllIdle, OpensAgain, FollowsRow}
-use Rattle.machine.proofs.Stores.{putAll-none}
-use Rattle.machine.proofs.Found.{finals}
-use Rattle.machine.proofs.Good.{good-arena, good-count}
-use Rattle.machine.proofs.Calls.{held-open, held-allowed, held-word, lanes-out}
+use Rattle.machine.proofs.Opens.{opened-figures, opened-idle}
+use Rattle.machine.proofs.Good.{idle-arena, idle-count}
+use Rattle.machine.proofs.Calls.{held-open, lanes-out}
 use Rattle.machine.proofs.Histories.{HeldIn, held-small, held-figures, alike-open, alike-event, alike-events}
 use Rattle.machine.proofs.Contents.{contentOf}
+use Rattle.machine.proofs.SectorReads.{held-read, read-found}
 use Rattle.machine.proofs.RowAnswers.{read-is}
-use Rattle.machine.proofs.RowOpens.{finals-none, not-ended}
-use Rattle.machine.proofs.RowEvents.{RepIn, idle-as, opened-idle, accepted, event-reply, event-rep}
+use Rattle.machine.proofs.RowEvents.{RepIn, idle-as, accepted, event-reply, event-rep}
 
 -- ---- the row that an arena begins with
 
-pub first-rep : (x : State) → HeldIn x → ((l : ℕ) → l < (layoutOf (x .handle .figures)) .N → (laneAt (x .handle .lanes) l) .busy ≡ false)
-    → RepIn (firstRow x) x
-first-rep x k calm = record { held = k; lane = λ l u. idle-as _ _ _ (calm l u); sector = found }
+pub first-rep : (x : State) → HeldIn x → AllIdle (x .handle) → RepIn (firstRow x) x
+first-rep x k calm = record { held = k; lane = λ l u. idle-as _ _ _ (calm l (lanes-out (x .handle .figures) l u)); sector = found }
   where
     found : (s : ℕ) → s < (layoutOf (x .handle .figures)) .E
         → foundSector (readOf (x .arena) (x .handle) s (replicate (x .handle .figures .size) 0)) ≡ contentOf (x .handle .figures) (x .arena) s
-    found s u = unfold readOf readNumber contentOf blockBytes layoutOf in
-        (rw (
-          held-allowed (x .arena) (x .handle) k,
-          lt-leb (x .handle .figures .sectors) s u,
-          length-replicate {A = ℕ} (x .handle .figures .size) 0,
-          eq-eqb (x .handle .figures .size) (x .handle .figures .size) refl,
-          held-word (x .arena) (x .handle) k s u,
-        )
-        (by-bool (eqb (readingOf (flagsOf (mapWord (layoutOf (x .handle .figures)) (x .arena) s))) 1) _ (λ t. rw t) (λ t. rw t)))
+    found s u = ap foundSector (held-read (x .arena) (x .handle) k s _) ∙ read-found (x .handle .figures) _ s u
 
 -- ---- event by event
 
@@ -93,46 +77,38 @@ follow f (e ∷ es) row x g k small one =
 -- ---- opened again with every lane idle
 
 module _ (row : Row) (x : State) (k : RepIn row x) (calm : AllIdle (x .handle)) (room : List ℕ) (u : x .handle .figures .blocks ≤ length room) where
-  none : finals (layoutOf (x .handle .figures)) (x .handle .lanes) ((layoutOf (x .handle .figures)) .N) ≡ []
-  none = finals-none (layoutOf (x .handle .figures)) (x .handle .lanes) ((layoutOf (x .handle .figures)) .N)
-      (λ l v. not-ended row (x .arena) (x .handle) k l v (calm l (lanes-out (x .handle .figures) l v)))
+  all-idle : (l : ℕ) → l < (layoutOf (x .handle .figures)) .N → (laneAt (x .handle .lanes) l) .busy ≡ false
+  all-idle l v = calm l (lanes-out (x .handle .figures) l v)
 
   opens : (openOf (x .arena) room) .number ≡ 0
   opens = accepted row x k room u
 
   same-arena : (openOf (x .arena) room) .arena ≡ x .arena
-  same-arena =
-      good-arena (x .arena) (x .handle .figures) (x .handle .lanes) (k .held .good) room u
-      ∙ ap (λ (ss : List Store). putAll (layoutOf (x .handle .figures)) ss (x .arena)) none ∙ putAll-none (layoutOf (x .handle .figures)) (x .arena)
+  same-arena = idle-arena (x .arena) (x .handle .figures) (x .handle .lanes) (k .held .good) room u all-idle
 
   same-figures : (openOf (x .arena) room) .handle .figures ≡ x .handle .figures
   same-figures = alike-open x room (k .held) opens .figures
 
   idle-lane : (l : ℕ) → l < (layoutOf (x .handle .figures)) .N → row .lane l ≡ idle
-  idle-lane l v = k .lane l v .is ∙ rw (calm l (lanes-out (x .handle .figures) l v))
+  idle-lane l v = k .lane l v .is ∙ rw (all-idle l v)
 
   again-rep : RepIn row (openedState (openOf (x .arena) room))
   again-rep = record {
     held = held-open (x .arena) room (held-small x (k .held)) opens;
-    lane = λ l v. rw (idle-lane l (rw same-figures at v)) (idle-as _ _ _ (opened-idle (x .arena) room opens l v));
+    lane = λ l v. rw (idle-lane l (rw same-figures at v)) (idle-as _ _ _ (opened-idle (x .arena) room opens l (lanes-out _ l v)));
     sector = rw (same-figures, same-arena) (k .sector);
   }
 
   pub opens-again : OpensAgain x row room
   opens-again = record {
     number = opens;
-    mended = good-count (x .arena) (x .handle .figures) (x .handle .lanes) (k .held .good) room u ∙ ap length none;
+    mended = idle-count (x .arena) (x .handle .figures) (x .handle .lanes) (k .held .good) room u all-idle;
     arena = same-arena;
     reads = λ s buffer. read-is row ((openOf (x .arena) room) .arena) ((openOf (x .arena) room) .handle) again-rep s buffer
         ∙ ap (λ (f : Figures). rowRead f row s buffer) (same-figures ∙ sym (held-figures x (k .held)));
   }
 
 -- ---- the claim
-
--- an accepted opening's handle has the figures of the info block
-pub opened-figures : (a work : List ℕ) → (openOf a work) .number ≡ 0 → (openOf a work) .handle .figures ≡ figuresIn a
-unfolding openOf handleFor
-opened-figures a work e = rw e
 
 module _ (a work : List ℕ) (es : List Event) (small : Small a) (smalls : SmallEvents es) (e : (openOf a work) .number ≡ 0)
     (one : OneBuffer (figuresIn a) (firstRow (openedFrom a work)) es) where

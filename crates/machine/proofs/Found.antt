@@ -1,7 +1,7 @@
 -- What opening reads of the log of a lane that the invariant holds of: the record as it is once a write that lacks only its map
 -- word is ended. The pending lanes are just those whose writes lack only that.
 use mathlib.Core.Path.{_≡_, refl, sym, ap, ap₂, _∙_}
-use mathlib.Core.List.{List, [], _∷_, _++_}
+use mathlib.Core.List.{List, [], _∷_, _++_, append-nil}
 use mathlib.Core.Bool.{Bool, true, false, cond}
 use Prim.Native.Nat.{ℕ, zero, suc, _+_, _-_, _≤_, _<_}
 use native.Mathlib.Omega.{arith}
@@ -14,10 +14,11 @@ use Rattle.format.proofs.Tests.{by-bool}
 use Rattle.machine.specs.declared.lane.Lane.{Lane}
 use Rattle.machine.specs.Lane.{idleLane, finishedLane}
 use Rattle.machine.specs.Handle.{laneAt}
-use Rattle.machine.specs.Stores.{Store}
+use Rattle.machine.specs.Stores.{Store, stored, putAll}
 use Rattle.machine.specs.Flog.{mapBlock, flogWord, logged, pending}
 use Rattle.machine.specs.Opening.{mendStore, mends, laneReadable, foundLane}
 use Rattle.machine.proofs.Once.{free-unmapped}
+use Rattle.machine.proofs.Stores.{putAll-one}
 use Rattle.machine.proofs.Inv.{logWord, LaneInv, Inv, blockIn}
 use Rattle.machine.proofs.Finish.{finalStore}
 
@@ -37,6 +38,30 @@ finals g lanes (suc l) = finals g lanes l ++ cond (ended g (laneAt lanes l)) (fi
 pub ended-true : (g : Layout) (r : Lane) → ended g r ≡ true → r .made ≡ g .W + 4
 ended-true g r e = eqb-true (r .made) (g .W + 4) e
 
+-- the same test with the store that comes next counted in
+pub last-next : (n w : ℕ) → eqb (n + 1) (w + 5) ≡ eqb n (w + 4)
+last-next n w = go (ℕ-discrete n (w + 4))
+  where
+    go : Dec (n ≡ w + 4) → eqb (n + 1) (w + 5) ≡ eqb n (w + 4)
+    go (yes e) = eq-eqb (n + 1) (w + 5) (omega arith) ∙ sym (eq-eqb n (w + 4) e)
+    go (no d) = ne-eqb (n + 1) (w + 5) (λ e. omega arith) ∙ sym (ne-eqb n (w + 4) d)
+
+-- the stores of one lane more
+module _ (g : Layout) (lanes : List Lane) where
+  pub finals-more : (a : List ℕ) (n : ℕ) → ended g (laneAt lanes n) ≡ true
+      → putAll g (finals g lanes (suc n)) a ≡ stored g (finalStore (laneAt lanes n)) (putAll g (finals g lanes n) a)
+  unfolding finals
+  finals-more a n e = rw e (putAll-one g (finals g lanes n) (finalStore (laneAt lanes n)) a)
+
+  pub finals-same : (n : ℕ) → ended g (laneAt lanes n) ≡ false → finals g lanes (suc n) ≡ finals g lanes n
+  unfolding finals
+  finals-same n e = rw e (append-nil (finals g lanes n))
+
+  -- where none of the lanes below n lacks only its map word
+  pub finals-none : (n : ℕ) → ((l : ℕ) → l < n → ended g (laneAt lanes l) ≡ false) → finals g lanes n ≡ []
+  finals-none zero e = unfold finals in refl
+  finals-none (suc n) e = finals-same n (e n (omega arith)) ∙ finals-none n (λ l u. e l (omega arith))
+
 module _ (g : Layout) (a : List ℕ) (l : ℕ) (r : Lane) (i : LaneInv g a l r) where
   pub log-before : r .made < g .W + 4 → (k : ℕ) → logged g a l k ≡ flogWord g a l (1 - r .half) k
   log-before u k = ap (λ (x : ℕ). flogWord g a l x k) (i .before u .other)
@@ -46,6 +71,10 @@ module _ (g : Layout) (a : List ℕ) (l : ℕ) (r : Lane) (i : LaneInv g a l r) 
 
   pub busy-after : r .made ≡ g .W + 4 → r .busy ≡ true
   busy-after e = by-bool (r .busy) (r .busy ≡ true) (λ t. t) (λ f. absurd (omega (arith, i .still f)))
+
+  -- an idle lane has made no store
+  pub idle-ended : r .busy ≡ false → ended g r ≡ false
+  idle-ended f = ne-eqb (r .made) (g .W + 4) (λ e. omega (arith, i .still f))
 
   pub made-cases : (P : Type 0) → (r .made ≡ g .W + 4 → P) → (r .made < g .W + 4 → P) → P
   made-cases P f k = go (ℕ-discrete (r .made) (g .W + 4))

@@ -1,35 +1,23 @@
 -- An arena as making leaves its map and flog: every map word is 0, and lane l's first half is (l, E + l, E + l, 1), its second unset.
--- So sector s has block s and lane l has E + l free, nothing is pending, and every test of opening passes.
-use mathlib.Core.Path.{_≡_, refl, sym, ap, ap₂, _∙_, subst}
-use mathlib.Core.Logic.{_⊎_, inl, inr}
-use mathlib.Core.Bool.{true, false, cond}
+-- So sector s has block s and lane l has E + l free, nothing is pending, and every block is mapped or free once.
+use mathlib.Core.Path.{_≡_, sym, ap, ap₂, _∙_, subst}
+use mathlib.Core.Bool.{false}
 use mathlib.Core.List.{List}
-use Prim.Native.Nat.{ℕ, zero, suc, _+_, _-_, _≤_, _<_}
+use Prim.Native.Nat.{ℕ, _+_, _-_, _≤_, _<_}
 use native.Mathlib.Omega.{arith}
-use native.Mathlib.Decide.{ℕ-discrete}
-use lib.Dec.{eqb, ltb}
-use borrow.Author.Tests.{ltb-true, ltb-false, ne-eqb, eq-eqb}
-use Rattle.format.specs.Tests.{every, some}
+use lib.Dec.{ltb}
+use borrow.Author.Tests.{ltb-true, ltb-false, ne-eqb}
 use Rattle.format.specs.Sequence.{newer, successor}
-use Rattle.format.specs.MapWord.{blockOf, badWord}
+use Rattle.format.specs.MapWord.{blockOf}
 use Rattle.layout.specs.Place.{Layout, LayoutOk}
-use Rattle.format.proofs.Tests.{by-bool, every-intro, some-intro}
+use Rattle.format.proofs.Tests.{by-bool}
 use Rattle.format.proofs.MapWord.{block-zero}
 use Rattle.machine.specs.Lane.{idleLane}
 use Rattle.machine.specs.Stores.{Store, putAll}
 use Rattle.machine.specs.Flog.{mapWord, mapBlock, flogWord, newerHalf, logged, freeOf, pending}
-use Rattle.machine.specs.Opening.{
-  laneReadable,
-  pendingLanes,
-  mended,
-  twoPending,
-  count,
-  eachOnce,
-  foundLane,
-}
+use Rattle.machine.specs.Opening.{pendingLanes, mended, foundLane}
 use Rattle.machine.specs.Valid.{Readable, BadWord, Pending, blockAt, EachOnce, Settled}
 use Rattle.machine.proofs.Mends.{none-mended, none-pending}
-use Rattle.machine.proofs.Reflect.{ok-readable}
 
 pub record Fresh (g : Layout) (a : List ℕ) : Type 0 where
   pub ok : LayoutOk g
@@ -39,33 +27,6 @@ pub record Fresh (g : Layout) (a : List ℕ) : Type 0 where
   pub new : (l : ℕ) → l < g .N → flogWord g a l 0 2 ≡ g .E + l
   pub first : (l : ℕ) → l < g .N → flogWord g a l 0 3 ≡ 1
   pub second : (l : ℕ) → l < g .N → flogWord g a l 1 3 ≡ 0
-
--- how often b is among c, c + 1, .. , c + n - 1
-count-miss : (n c b : ℕ) (f : ℕ → ℕ) → ((i : ℕ) → i < n → f i ≡ c + i) → (b < c) ⊎ (c + n ≤ b) → count n f b ≡ 0
-unfolding count
-count-miss zero c b f e h = refl
-count-miss (suc n) c b f e h =
-    rw (ne-eqb b (f n) (λ d. apart h (e n (omega arith)) d), count-miss n c b f (λ i u. e i (omega arith)) (less h))
-  where
-    apart : (b < c) ⊎ (c + suc n ≤ b) → f n ≡ c + n → b ≡ f n → ⊥
-    apart (inl u) p q = omega arith
-    apart (inr u) p q = omega arith
-
-    less : (b < c) ⊎ (c + suc n ≤ b) → (b < c) ⊎ (c + n ≤ b)
-    less (inl u) = inl u
-    less (inr u) = inr (omega arith)
-
-count-hit : (n c b : ℕ) (f : ℕ → ℕ) → ((i : ℕ) → i < n → f i ≡ c + i) → c ≤ b → b < c + n → count n f b ≡ 1
-unfolding count
-count-hit zero c b f e h k = absurd (omega arith)
-count-hit (suc n) c b f e h k =
-    go (ℕ-discrete b (c + n)) (λ u. count-hit n c b f (λ i v. e i (omega arith)) h u)
-    (λ u. count-miss n c b f (λ i v. e i (omega arith)) u)
-  where
-    go : Dec (b ≡ c + n) → (b < c + n → count n f b ≡ 1) → ((b < c) ⊎ (c + n ≤ b) → count n f b ≡ 0)
-        → count n f b + cond (eqb b (f n)) 1 0 ≡ 1
-    go (yes p) hit miss = rw (eq-eqb b (f n) (p ∙ sym (e n (omega arith))), miss (inr (omega arith)))
-    go (no p) hit miss = rw (ne-eqb b (f n) (λ q. p (q ∙ e n (omega arith))), hit (omega arith))
 
 module _ (g : Layout) (a : List ℕ) (f : Fresh g a) where
   newer-fresh : (l : ℕ) → l < g .N → newerHalf g a l ≡ 0
@@ -110,33 +71,8 @@ module _ (g : Layout) (a : List ℕ) (f : Fresh g a) where
       let n = logged-fresh l 2 (g .E + l) u (f .new l u) in
       record { newer = omega arith; sector = omega arith; old = omega arith; new = omega arith }
 
-  pub lanes-readable : every (g .N) (laneReadable g a) ≡ true
-  lanes-readable = every-intro (g .N) (laneReadable g a) (λ l u. ok-readable g a l (readable l u))
-
-  pub words-fine : some (g .E) (λ s. badWord (g .I) (mapWord g a s)) ≡ false
-  words-fine = some-intro (g .E) (λ s. badWord (g .I) (mapWord g a s)) (λ s u. rw (f .map s u))
-
   pub no-bad-word : (s : ℕ) → s < g .E → BadWord (g .I) (mapWord g a s) → ⊥
   no-bad-word s u b = b .0 (rw (f .map s u))
-
-  pub no-two-pending : twoPending g a ≡ false
-  unfolding twoPending
-  no-two-pending = some-intro (g .N) _ (λ l u. some-intro l _ (λ j v. rw (pending-fresh l u)))
-
-  counted : (b : ℕ) → b < g .I → count (g .E) (mapBlock g a) b + count (g .N) (freeOf g a) b ≡ 1
-  counted b u =
-      by-bool (ltb b (g .E)) (count (g .E) (mapBlock g a) b + count (g .N) (freeOf g a) b ≡ 1)
-      (λ t. let h : b < g .E = ltb-true b (g .E) t in
-      ap₂ _+_ (count-hit (g .E) 0 b (mapBlock g a) (λ i v. block-fresh i v ∙ omega arith) (omega arith) (omega arith))
-      (count-miss (g .N) (g .E) b (freeOf g a) free-fresh (inl h)))
-      (λ t. let h : g .E ≤ b = ltb-false b (g .E) t in
-      let o = f .ok in
-      ap₂ _+_ (count-miss (g .E) 0 b (mapBlock g a) (λ i v. block-fresh i v ∙ omega arith) (inr (omega arith)))
-      (count-hit (g .N) (g .E) b (freeOf g a) free-fresh h (omega arith)))
-
-  pub each-once : eachOnce g (mapBlock g (mended g a)) (freeOf g a) ≡ true
-  unfolding eachOnce
-  each-once = rw mended-same (every-intro (g .I) _ (λ b u. eq-eqb _ _ (counted b u)))
 
   block-at : (i : ℕ) → i < g .E + g .N → blockAt g (mapBlock g a) (freeOf g a) i ≡ i
   block-at i u =

@@ -23,7 +23,6 @@ use Rattle.infoblock.specs.Info.{
   sound,
   flagsField,
   figuresOf,
-  headerAllowed,
   split,
   headWords,
   bodyWords,
@@ -155,7 +154,3 @@ module _ (first second : List ℕ) (f : Figures) where
     pub next-fresh : long b 20 ≡ 0
     unfolding long headWords
     next-fresh = ap₂ joined (head 20 (omega arith)) (head 21 (omega arith))
-
-    pub header-fresh : headerAllowed b ≡ true
-    unfolding headerAllowed
-    header-fresh = rw (version-fresh, info-size-fresh, next-fresh)

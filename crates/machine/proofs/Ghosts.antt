@@ -6,7 +6,6 @@ use mathlib.Core.List.{List, _++_}
 use mathlib.Core.Bool.{true, false, cond}
 use Prim.Native.Nat.{ℕ, zero, suc, _+_, _-_, _≤_, _<_}
 use native.Mathlib.Omega.{arith}
-use native.Mathlib.Decide.{decLt}
 use lib.ListN.{length-append}
 use borrow.Author.Tests.{eq-eqb, ne-eqb}
 use Rattle.layout.specs.Place.{Layout, LayoutOk}
@@ -14,7 +13,6 @@ use Rattle.format.specs.Sequence.{newer}
 use Rattle.format.specs.MapWord.{badWord}
 use Rattle.format.proofs.Tests.{true-false, by-bool}
 use Rattle.format.proofs.Sequences.{newer-set, successor-in}
-use Rattle.format.proofs.MapWord.{block-in}
 use Rattle.machine.specs.declared.lane.Lane.{Lane}
 use Rattle.machine.specs.Lane.{idleLane, startedLane, laneAfter}
 use Rattle.machine.specs.Handle.{laneAt}
@@ -24,11 +22,11 @@ use Rattle.machine.specs.Opening.{laneReadable, mends, mended, twoPendin
 use Rattle.machine.specs.Valid.{Readable}
 use Rattle.machine.proofs.Once.{Once, once-of, count-same}
 use Rattle.machine.proofs.Stores.{Arena}
-use Rattle.machine.proofs.Inv.{logWord, LaneInv, Inv, blockIn}
+use Rattle.machine.proofs.Inv.{logWord, LaneInv, Inv, blockIn, idle-inv}
 use Rattle.machine.proofs.Found.{ended, settledLane, pending-is, mends-are}
 use Rattle.machine.proofs.Ends.{finishLanes, finish-later, finish-sooner, finish-inv}
-use Rattle.machine.proofs.Mends.{readable-of, pending-old}
-use Rattle.machine.proofs.Spare.{two-none, spare-count}
+use Rattle.machine.proofs.Mends.{readable-of, word-in, pending-old}
+use Rattle.machine.proofs.Spare.{two-apart, spare-count}
 use Rattle.machine.proofs.Lanes.{listed, listed-length, lane-listed, found-length, found-at, inv-same}
 
 -- an arena that passes rules 6 to 8, in its layout
@@ -68,28 +66,15 @@ module _ (g : Layout) (ok : LayoutOk g) (a : List ℕ) (l : ℕ) (p : Readable g
       let t = set-of g a l (p .newer) in
       let n = successor-in (logged g a l 3) (t .0) (t .1) in
       let back : 1 - (1 - newerHalf g a l) ≡ newerHalf g a l = omega (arith, p .newer) in
-      record {
-        block-in = p .old;
-        half-in = omega arith;
-        set-low = n .0;
-        set-high = n .1;
-        sector-in = omega (arith, ok .some-lane, ok .enough);
-        old-in = omega (arith, p .old);
-        made-in = omega arith;
-        still = λ _. refl;
-        mapped = λ e. true-false (sym e);
-        written = λ k c d. absurd (omega arith);
-        before = λ _. record {
-          other = sym back;
-          free = rw back refl;
-          sector-in = rw back (p .sector);
-          new-in = rw back (p .new);
-          set-low = rw back (t .0);
-          set-high = rw back (t .1);
-          next = rw back refl;
-        };
-        after = λ e. absurd (omega arith);
-      }
+      idle-inv g ok a l _ _ _ (p .old) (omega arith) (n .0) (n .1) (record {
+        other = sym back;
+        free = rw back refl;
+        sector-in = rw back (p .sector);
+        new-in = rw back (p .new);
+        set-low = rw back (t .0);
+        set-high = rw back (t .1);
+        next = rw back refl;
+      })
 
   pub pending-found : pending g a l ≡ true → LaneInv g a l (pendingLane g a l)
   pending-found e =
@@ -144,7 +129,7 @@ module _ (g : Layout) (a : List ℕ) (j : Judged g a) where
   ghost-at l u = lane-listed (ghostLane g a) (g .N) l u
 
   pub found-in : (s : ℕ) → s < g .E → mapBlock g a s < g .I
-  found-in s u = block-in (g .I) s _ (omega (arith, j .ok .blocks)) (j .words s u)
+  found-in s u = word-in g (j .ok) a s u (j .words s u)
 
   pub ghost-inv : Inv g a (ghosts g a)
   unfolding Once
@@ -153,23 +138,19 @@ module _ (g : Layout) (a : List ℕ) (j : Judged g a) where
     arena = j .arena;
     long = rw (listed-length (ghostLane g a) (g .N)) (omega arith);
     lane = λ l u. rw (ghost-at l u) (ghost-found g (j .ok) a l (readable-of g a l (j .lanes l u)));
-    apart = λ l k u v n. rw (ghost-at l u, ghost-at k v) (apart l k u v n (decLt k l));
+    apart = λ l k u v n. rw (ghost-at l u, ghost-at k v) (apart l k u v n);
     once = λ b u. ap (λ (n : ℕ). count (g .E) (mapBlock g a) b + n)
         (count-same (g .N) (spareOf g a) (blockIn (ghosts g a)) b (λ l v. ap (λ (q : Lane). q .block .0) (ghost-at l v) ∙ ghost-block g a l))
         ∙ sym (spare-count g (j .ok) a (j .arena) (j .lanes) (j .apart) b) ∙ once-of g _ _ (j .once) b u;
     map-in = found-in;
   }
     where
-      apart : (l k : ℕ) → l < g .N → k < g .N → l ≢ k → Dec (k < l) → (ghostLane g a l) .busy ≡ true → (ghostLane g a k) .busy ≡ true
+      apart : (l k : ℕ) → l < g .N → k < g .N → l ≢ k → (ghostLane g a l) .busy ≡ true → (ghostLane g a k) .busy ≡ true
           → (ghostLane g a l) .sector .0 ≢ (ghostLane g a k) .sector .0
-      apart l k u v n (yes d) x y z =
+      apart l k u v n x y z =
           let p = ghost-busy g a l x in
           let q = ghost-busy g a k y in
-          two-none g a (j .apart) l k u d p q (sym (ghost-sector g a l p) ∙ z ∙ ghost-sector g a k q)
-      apart l k u v n (no d) x y z =
-          let p = ghost-busy g a l x in
-          let q = ghost-busy g a k y in
-          two-none g a (j .apart) k l v (omega arith) q p (sym (ghost-sector g a k q) ∙ sym z ∙ ghost-sector g a l p)
+          two-apart g a (j .apart) l k u v n p q (sym (ghost-sector g a l p) ∙ z ∙ ghost-sector g a k q)
 
   -- the arena with the lanes below n mended
   pub mends-inv : (n : ℕ) → n ≤ g .N → Inv g (putAll g (mends g a n) a) (finishLanes g (ghosts g a) n)
@@ -178,7 +159,8 @@ module _ (g : Layout) (a : List ℕ) (j : Judged g a) where
   -- a lane that has not had its turn is pending as it was found
   pub pending-kept : (n l : ℕ) → n ≤ l → l < g .N → pending g (putAll g (mends g a n) a) l ≡ pending g a l
   pending-kept n l u v =
-      pending-is g _ _ (mends-inv n (omega arith)) l v ∙ ap (ended g) (finish-later g (ghosts g a) n l u) ∙ sym (pending-is g a (ghosts g a) ghost-inv l v)
+      pending-is g _ _ (mends-inv n (omega arith)) l v ∙ ap (ended g) (finish-later g (ghosts g a) n l u)
+      ∙ sym (pending-is g a (ghosts g a) ghost-inv l v)
 
   -- the arena that opening leaves, with the records that it gives
   pub opened-inv : (rest : List Lane) → Inv g (mended g a) (foundLanes g a (g .N) ++ rest)

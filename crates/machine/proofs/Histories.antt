@@ -3,12 +3,15 @@
 use mathlib.Core.Path.{_≡_, refl, _∙_}
 use mathlib.Core.List.{List, [], _∷_, List·Memᴰ·head, List·Memᴰ·tail}
 use mathlib.Core.Bool.{Bool, true, false, cond}
-use Prim.Native.Nat.{ℕ}
+use Prim.Native.Nat.{ℕ, zero, suc}
 use lib.Dec.{eqb}
 use lib.ListN.{length}
 use borrow.Author.Tests.{eqb-true}
-use Rattle.machine.specs.Opening.{figuresIn, layoutIn, mends, openOf, handleFor}
+use Rattle.words.proofs.Laws.{length-putWord}
+use Rattle.format.proofs.Tests.{by-bool}
+use Rattle.machine.specs.Opening.{figuresIn, layoutIn, mends, openOf}
 use Rattle.machine.specs.Valid.{Small}
+use Rattle.machine.specs.Writing.{startNumber, startOf, stepNumber, stepOf, stepsOf, writeNumber, writeOf}
 use Rattle.machine.specs.History.{
   Call,
   read,
@@ -16,21 +19,21 @@ use Rattle.machine.specs.History.{
   step,
   write,
   State,
+  outcomeState,
   openedState,
   after,
-  run,
   Event,
   called,
   opened,
   afterEvent,
   runEvents,
   SmallCall,
-  SmallCalls,
   SmallEvent,
   SmallEvents,
 }
 use Rattle.machine.proofs.Stores.{putAll-length}
-use Rattle.machine.proofs.Calls.{Held, held-open, good-start, good-step, good-write, start-shape, step-shape, write-shape}
+use Rattle.machine.proofs.Opens.{opened-figures}
+use Rattle.machine.proofs.Calls.{Held, held-open, good-start, good-step, good-write}
 
 -- an arena and the latest handle of it
 abbrev pub HeldIn : State → Type 0
@@ -62,23 +65,34 @@ held-after x (start l s) small k = good-start (x .arena) (x .handle) l s k
 held-after x (step l buffer) small k = good-step (x .arena) (x .handle) l buffer small k
 held-after x (write l s buffer) small k = good-write (x .arena) (x .handle) l s buffer small k
 
--- of whatever handle
+-- length and figures stay, of whatever handle
+start-alike : (x : State) (l s : ℕ) → Alike x (after x (start l s))
+unfolding startOf
+start-alike x l s = by-bool (eqb (startNumber (x .arena) (x .handle) l s) 0) _
+    (λ t. rw t (record { size = refl; figures = refl })) (λ t. rw t (alike-self x))
+
+step-alike : (x : State) (l : ℕ) (buffer : List ℕ) → Alike x (after x (step l buffer))
+unfolding stepOf
+step-alike x l buffer = by-bool (eqb (stepNumber (x .arena) (x .handle) l buffer) 0) _
+    (λ t. rw t (record { size = length-putWord (x .arena) _ _; figures = refl })) (λ t. rw t (alike-self x))
+
+pub steps-alike : (n : ℕ) (x : State) (l : ℕ) (buffer : List ℕ) → Alike x (outcomeState (stepsOf n (x .arena) (x .handle) l buffer))
+unfolding stepsOf
+steps-alike zero x l buffer = alike-self x
+steps-alike (suc n) x l buffer =
+    let y = outcomeState (stepsOf n (x .arena) (x .handle) l buffer) in
+    alike-then x y (after y (step l buffer)) (steps-alike n x l buffer) (step-alike y l buffer)
+
+write-alike : (x : State) (l s : ℕ) (buffer : List ℕ) → Alike x (after x (write l s buffer))
+unfolding writeOf
+write-alike x l s buffer = by-bool (eqb (writeNumber (x .arena) (x .handle) l s buffer) 0) _
+    (λ t. rw t (alike-then x (after x (start l s)) _ (start-alike x l s) (steps-alike _ (after x (start l s)) l buffer))) (λ t. rw t (alike-self x))
+
 pub alike-after : (x : State) (c : Call) → Alike x (after x c)
 alike-after x (read s buffer) = alike-self x
-alike-after x (start l s) = let p = start-shape (x .arena) (x .handle) l s in record { size = p .size; figures = p .figures }
-alike-after x (step l buffer) = let p = step-shape (x .arena) (x .handle) l buffer in record { size = p .size; figures = p .figures }
-alike-after x (write l s buffer) = let p = write-shape (x .arena) (x .handle) l s buffer in record { size = p .size; figures = p .figures }
-
-pub held-run : (x : State) (cs : List Call) → SmallCalls cs → HeldIn x → HeldIn (run x cs)
-unfolding run
-held-run x [] small k = k
-held-run x (c ∷ cs) small k =
-    held-run (after x c) cs (λ d m. small d (List·Memᴰ·tail m)) (held-after x c (small c (List·Memᴰ·head refl)) k)
-
-pub alike-run : (x : State) (cs : List Call) → Alike x (run x cs)
-unfolding run
-alike-run x [] = alike-self x
-alike-run x (c ∷ cs) = alike-then x (after x c) (run (after x c) cs) (alike-after x c) (alike-run (after x c) cs)
+alike-after x (start l s) = start-alike x l s
+alike-after x (step l buffer) = step-alike x l buffer
+alike-after x (write l s buffer) = write-alike x l s buffer
 
 -- ---- openings
 
@@ -92,10 +106,10 @@ opening-cases x work P new old = go (eqb ((openOf (x .arena) work) .number) 0) (
     go false f = old
 
 pub alike-open : (x : State) (work : List ℕ) → HeldIn x → (openOf (x .arena) work) .number ≡ 0 → Alike x (openedState (openOf (x .arena) work))
-unfolding openOf handleFor
+unfolding openOf
 alike-open x work k e =
     let g = layoutIn (x .arena) in
-    record { size = rw e (putAll-length g (mends g (x .arena) (g .N)) (x .arena)); figures = rw e (held-figures x k) }
+    record { size = rw e (putAll-length g (mends g (x .arena) (g .N)) (x .arena)); figures = opened-figures (x .arena) work e ∙ held-figures x k }
 
 -- ---- calls with openings between
 

@@ -15,7 +15,6 @@ use Rattle.format.specs.MapWord.{blockOf, mappedTo}
 use Rattle.format.proofs.Tests.{by-bool}
 use Rattle.layout.specs.Figures.{maxLanes}
 use Rattle.layout.specs.Place.{Layout, layoutOf, at, inMap, inFlog}
-use Rattle.machine.specs.declared.lane.Lane.{Lane}
 use Rattle.machine.specs.Lane.{idleLane, noLane}
 use Rattle.machine.specs.Handle.{laneAt}
 use Rattle.machine.specs.Stores.{putAll}
@@ -27,7 +26,7 @@ use Rattle.machine.specs.Opening.{
   mends,
   pendingLanes,
   mended,
-  foundLane,
+  foundLanes,
   handleFor,
   openOf,
   cutOpenOf,
@@ -52,13 +51,13 @@ use Rattle.machine.specs.Claims.{
 }
 use Rattle.machine.proofs.Stores.{elsewhere, stored-word, putAll-length}
 use Rattle.machine.proofs.MapStores.{map-fits}
-use Rattle.machine.proofs.Mends.{readable-of, pending-old, mends-take, mends-more, mends-same, mends-arena}
+use Rattle.machine.proofs.Mends.{readable-of, pending-old, mends-take, mends-more, mends-same, mend-keeps, mends-arena}
 use Rattle.machine.proofs.Spare.{two-none}
 use Rattle.machine.proofs.Settled.{of-pending}
-use Rattle.machine.proofs.Lanes.{listed, listed-length, listed-at, found-listed}
+use Rattle.machine.proofs.Lanes.{found-length}
 use Rattle.machine.proofs.Ghosts.{Judged}
 use Rattle.machine.proofs.Described.{Described, described-figures}
-use Rattle.machine.proofs.Opens.{open-zero, opens-judged}
+use Rattle.machine.proofs.Opens.{open-zero, handle-lane, opens-judged}
 use Rattle.machine.proofs.Offsets.{word-at, map-start, flog-start, map-word}
 
 -- ---- the mended map by word numbers
@@ -91,12 +90,7 @@ module _ (g : Layout) (a : List ℕ) (j : Judged g a) where
   -- a byte that is in the map word of no pending lane below n
   byte-kept : (n k : ℕ) → n ≤ g .N → ((l : ℕ) → l < n → pending g a l ≡ true → k / 4 ≢ at g (inMap (logged g a l 0)))
       → getD (putAll g (mends g a n) a) k 0 ≡ getD a k 0
-  byte-kept zero k u f = unfold mends putAll in refl
-  byte-kept (suc n) k u f =
-      let ih = byte-kept n k (omega arith) (λ l v. f l (omega arith)) in
-      by-bool (pending g a n) _
-      (λ t. rw (mends-more g a n t) (getD-putWord-other _ _ _ k (f n (omega arith) t) ∙ ih))
-      (λ t. rw (mends-same g a n t) ih)
+  byte-kept n k u f = mend-keeps g a (λ x. getD x k 0 ≡ getD a k 0) refl n (λ l v t e. getD-putWord-other _ _ _ k (f l v t) ∙ e)
 
 -- ---- words by their bytes
 
@@ -161,30 +155,23 @@ zero-past n i = go (decLt i n)
     go (no h) = List·getD-eq-default (replicate n noLane) noLane (rw length-replicate (omega arith))
 
 module _ (a : List ℕ) (d : Described a) (j : Judged (layoutIn a) a) where
-  found : List Lane
-  found = listed (foundLane (layoutIn a) a) ((figuresIn a) .lanes)
-
-  lanes-are : (handleFor a) .lanes ≡ found ++ replicate (maxLanes - (figuresIn a) .lanes) noLane
-  unfolding handleFor layoutOf found
-  lanes-are = ap (λ (x : List Lane). x ++ replicate (maxLanes - (figuresIn a) .lanes) noLane) (found-listed (layoutIn a) a ((figuresIn a) .lanes))
-
   lane-found : (l : ℕ) → l < (figuresIn a) .lanes → LaneAsFound a l (laneAt ((handleFor a) .lanes) l)
-  unfolding layoutOf found
+  unfolding layoutOf
   lane-found l u = record {
     has-newer = rw (newer-bytes a d l) at (readable-of (layoutIn a) a l (j .lanes l u) .newer);
-    record-is = ap (λ (x : List Lane). laneAt x l) lanes-are ∙ listed-at (foundLane (layoutIn a) a) ((figuresIn a) .lanes) l _ u
+    record-is = handle-lane a l u
         ∙ (λ i. idleLane (old-bytes a d l i) (1 - newer-bytes a d l i) (successor (sequence-bytes a d l i)));
   }
 
   lane-past : (l : ℕ) → (figuresIn a) .lanes ≤ l → laneAt ((handleFor a) .lanes) l ≡ noLane
-  unfolding found
+  unfolding handleFor layoutOf
   lane-past l u =
-      let n = listed-length (foundLane (layoutIn a) a) ((figuresIn a) .lanes) in
-      let e : length found + (l - (figuresIn a) .lanes) ≡ l = omega (arith, n) in
-      ap (λ (x : List Lane). laneAt x l) lanes-are
-      ∙ ap (laneAt (found ++ replicate (maxLanes - (figuresIn a) .lanes) noLane)) (sym e)
-      ∙ getD-append-add found (replicate (maxLanes - (figuresIn a) .lanes) noLane) (l - (figuresIn a) .lanes) noLane
-      ∙ zero-past (maxLanes - (figuresIn a) .lanes) (l - (figuresIn a) .lanes)
+      let n = (figuresIn a) .lanes in
+      let found = foundLanes (layoutIn a) a n in
+      let e : length found + (l - n) ≡ l = omega (arith, found-length (layoutIn a) a n) in
+      ap (laneAt (found ++ replicate (maxLanes - n) noLane)) (sym e)
+      ∙ getD-append-add found (replicate (maxLanes - n) noLane) (l - n) noLane
+      ∙ zero-past (maxLanes - n) (l - n)
 
   handle-found : HandleAsFound a (handleFor a)
   handle-found = record { size = unfold handleFor in refl; figures = unfold handleFor in refl; lanes = lane-found; past = lane-past }

@@ -1,6 +1,6 @@
 -- What holds of an arena and the lane records of its handle, whatever was called: each lane's log agrees with its record, no two
 -- lanes have one sector in flight, and mapped blocks with free blocks are every block once.
-use mathlib.Core.Path.{_≡_, sym, ap, ap₂, _∙_}
+use mathlib.Core.Path.{_≡_, refl, sym, ap, ap₂, _∙_}
 use mathlib.Core.Logic.{_≢_}
 use mathlib.Core.List.{List}
 use mathlib.Core.Bool.{true, false}
@@ -11,9 +11,10 @@ use lib.ListN.{length, set, length-set}
 use lib.Seq.{getD-set-same, getD-set-other}
 use Rattle.layout.specs.Place.{Layout, LayoutOk}
 use Rattle.format.specs.Sequence.{newer, successor}
+use Rattle.format.proofs.Tests.{true-false}
 use Rattle.format.proofs.Sequences.{newer-first, newer-second}
 use Rattle.machine.specs.declared.lane.Lane.{Lane}
-use Rattle.machine.specs.Lane.{noLane}
+use Rattle.machine.specs.Lane.{idleLane, noLane}
 use Rattle.machine.specs.Handle.{laneAt}
 use Rattle.machine.specs.Flog.{mapBlock, flogWord, newerHalf}
 use Rattle.machine.proofs.Once.{Once}
@@ -68,6 +69,24 @@ pub record Inv (g : Layout) (a : List ℕ) (lanes : List Lane) : Type 0 where
   -- mapped blocks and the lanes' free blocks are all blocks, each once
   pub once : Once (g .I) (g .E) (g .N) (mapBlock g a) (blockIn lanes)
   pub map-in : (s : ℕ) → s < g .E → mapBlock g a s < g .I
+
+-- an idle lane, by its log
+pub idle-inv : (g : Layout) → LayoutOk g → (a : List ℕ) (l block half sequence : ℕ) → block < g .I → half < 2 → 1 ≤ sequence → sequence ≤ 3
+    → Before g a l half block sequence → LaneInv g a l (idleLane block half sequence)
+idle-inv g ok a l block half sequence b h lo hi log = record {
+  block-in = b;
+  half-in = h;
+  set-low = lo;
+  set-high = hi;
+  sector-in = omega (arith, ok .some-lane, ok .enough);
+  old-in = omega arith;
+  made-in = omega arith;
+  still = λ _. refl;
+  mapped = λ e. true-false (sym e);
+  written = λ k c d. absurd (omega arith);
+  before = λ _. log;
+  after = λ e. absurd (omega arith);
+}
 
 -- ---- the newer half, and what changes it
 

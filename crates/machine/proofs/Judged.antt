@@ -66,48 +66,48 @@ module _ (g : Layout) (a : List ℕ) (j : Judged g a) (n : ℕ) (few : n ≤ g .
   abbrev A : List ℕ
   A = putAll g (mends g a n) a
 
-  pub judged-kept : Judged g (putAll g (mends g a n) a)
+  pub judged-kept : Judged g A
   judged-kept = inv-judged g _ _ (mends-inv g a j n few)
 
-  pub pending-done : (l : ℕ) → l < n → pending g (putAll g (mends g a n) a) l ≡ false
+  pub pending-done : (l : ℕ) → l < n → pending g A l ≡ false
   pending-done l u =
       pending-is g _ _ (mends-inv g a j n few) l (omega arith)
       ∙ ap (ended g) (finish-sooner g (ghosts g a) n l u (rw (listed-length (ghostLane g a) (g .N)) few)) ∙ settled-ended g (laneAt (ghosts g a) l)
 
-  pub mends-none : (m : ℕ) → m ≤ n → mends g (putAll g (mends g a n) a) m ≡ []
+  pub mends-none : (m : ℕ) → m ≤ n → mends g A m ≡ []
   mends-none m u = none-mended g A m (λ l v. pending-done l (omega arith))
 
-  pub pending-none : (m : ℕ) → m ≤ n → pendingLanes g (putAll g (mends g a n) a) m ≡ 0
+  pub pending-none : (m : ℕ) → m ≤ n → pendingLanes g A m ≡ 0
   pending-none m u = none-pending g A m (λ l v. pending-done l (omega arith))
 
-  mend-same : (l : ℕ) → l < g .N → mendStore g (putAll g (mends g a n) a) l ≡ mendStore g a l
+  mend-same : (l : ℕ) → l < g .N → mendStore g A l ≡ mendStore g a l
   mend-same l u =
       rw (
         mends-logged g (j .ok) a (j .arena) (j .lanes) n few l 0 u (omega arith),
         mends-logged g (j .ok) a (j .arena) (j .lanes) n few l 2 u (omega arith),
       )
 
-  mends-rest : (d : ℕ) → n + d ≤ g .N → mends g a (n + d) ≡ mends g a n ++ mends g (putAll g (mends g a n) a) (n + d)
+  mends-rest : (d : ℕ) → n + d ≤ g .N → mends g a (n + d) ≡ mends g a n ++ mends g A (n + d)
   mends-rest zero u = rw (add-zero, mends-none n (omega arith)) (sym (append-nil (mends g a n)))
   mends-rest (suc d) u = rw add-suc (one (mends-rest d (omega arith)))
     where
-      one : mends g a (n + d) ≡ mends g a n ++ mends g (putAll g (mends g a n) a) (n + d)
-          → mends g a (suc (n + d)) ≡ mends g a n ++ mends g (putAll g (mends g a n) a) (suc (n + d))
+      one : mends g a (n + d) ≡ mends g a n ++ mends g A (n + d)
+          → mends g a (suc (n + d)) ≡ mends g a n ++ mends g A (suc (n + d))
       one ih = unfold mends in (
           ap₂ {C = List Store} (λ x y. x ++ y) ih
           (rw (pending-kept g a j n (n + d) (omega arith) (omega arith), mend-same (n + d) (omega arith)))
           ∙ append-assoc (mends g a n) (mends g A (n + d)) _)
 
   -- the rest of the stores leave the arena that all of them leave
-  pub mended-kept : mended g (putAll g (mends g a n) a) ≡ mended g a
+  pub mended-kept : mended g A ≡ mended g a
   mended-kept =
       let e : n + (g .N - n) ≡ g .N = omega arith in
       sym (ap (λ (x : List Store). putAll g x a) (rw e at (mends-rest (g .N - n) (omega arith))) ∙ putAll-append g (mends g a n) (mends g A (g .N)) a)
 
-  pub found-kept : foundLanes g (putAll g (mends g a n) a) (g .N) ≡ foundLanes g a (g .N)
+  pub found-kept : foundLanes g A (g .N) ≡ foundLanes g a (g .N)
   found-kept = found-listed g A (g .N) ∙ listed-same (foundLane g A) (foundLane g a) (g .N) same ∙ sym (found-listed g a (g .N))
     where
-      same : (l : ℕ) → l < g .N → foundLane g (putAll g (mends g a n) a) l ≡ foundLane g a l
+      same : (l : ℕ) → l < g .N → foundLane g A l ≡ foundLane g a l
       same l u =
           rw (
             mends-logged g (j .ok) a (j .arena) (j .lanes) n few l 1 u (omega arith),

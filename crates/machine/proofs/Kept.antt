@@ -1,4 +1,5 @@
--- A valid arena that is mended for the lanes below n opens as it did: the same answer, the same arena in the end, the same handle.
+-- A valid arena that is mended for the lanes below n opens as it did: the same answer, the same arena in the end, the same handle. The
+-- stores leave the info block alone, and what they leave to mend is the rest.
 use mathlib.Core.Path.{_≡_, sym, ap, _∙_}
 use mathlib.Core.List.{List}
 use mathlib.Core.Bool.{cond}
@@ -27,26 +28,26 @@ module _ (a : List ℕ) (o : Opens a) (small : Small a) (n : ℕ) (few : n ≤ (
   judged : Judged (layoutIn a) a
   judged = opens-judged a o small
 
-  pub kept-info : infoBlockOf (putAll (layoutIn a) (mends (layoutIn a) a n) a) ≡ infoBlockOf a
+  pub kept-info : infoBlockOf A ≡ infoBlockOf a
   kept-info = info-kept a (o .info) small (mends g a n) (λ st m. mends-fits g (judged .ok) a (judged .arena) (judged .lanes) n few st m .range)
 
-  pub kept-small : Small (putAll (layoutIn a) (mends (layoutIn a) a n) a)
+  pub kept-small : Small A
   kept-small = mends-arena g (judged .ok) a (judged .arena) (judged .lanes) n .bytes .small
 
-  pub kept-opens : Opens (putAll (layoutIn a) (mends (layoutIn a) a n) a)
+  pub kept-opens : Opens A
   kept-opens = judged-opens A (described-same a A (putAll-length g (mends g a n) a) kept-info (o .info)) (rw kept-info (judged-kept g a judged n few))
 
-  pub kept-number : (room : ℕ) → openNumber (putAll (layoutIn a) (mends (layoutIn a) a n) a) room ≡ openNumber a room
+  pub kept-number : (room : ℕ) → openNumber A room ≡ openNumber a room
   kept-number room =
       open-number A room kept-opens ∙ ap (λ (b : List ℕ). cond (ltb room ((layoutOf (figuresOf b)) .I)) 5 0) kept-info ∙ sym (open-number a room o)
 
-  pub kept-mended : mended (layoutIn (putAll (layoutIn a) (mends (layoutIn a) a n) a)) (putAll (layoutIn a) (mends (layoutIn a) a n) a) ≡ mended (layoutIn a) a
+  pub kept-mended : mended (layoutIn A) A ≡ mended (layoutIn a) a
   kept-mended = ap (λ (b : List ℕ). mended (layoutOf (figuresOf b)) A) kept-info ∙ mended-kept g a judged n few
 
-  pub kept-handle : handleFor (putAll (layoutIn a) (mends (layoutIn a) a n) a) ≡ handleFor a
+  pub kept-handle : handleFor A ≡ handleFor a
   unfolding handleFor
   kept-handle = rw (kept-info, putAll-length g (mends g a n) a, found-kept g a judged n few)
 
-  pub kept-work : (work : List ℕ) → workAfter (putAll (layoutIn a) (mends (layoutIn a) a n) a) work ≡ workAfter a work
+  pub kept-work : (work : List ℕ) → workAfter A work ≡ workAfter a work
   unfolding workAfter
   kept-work work = rw (kept-number (length work), kept-info)

@@ -1,4 +1,5 @@
 -- The writes of a book that lack only their map word: opening finds just their lanes pending, as many, and its stores are their map words.
+-- No two writes share a lane, so writes and lanes are counted alike.
 use mathlib.Core.Path.{_≡_, refl, sym, ap, ap₂, _∙_}
 use mathlib.Core.Logic.{⊎-elim}
 use mathlib.Core.List.{
@@ -10,7 +11,6 @@ use mathlib.Core.List.{
   List·Memᴰ·head,
   List·Memᴰ·tail,
   List·Memᴰ·not-nil,
-  List·Memᴰ·eq-of-singleton,
   List·Memᴰ·append-cases,
   Memᴰ·append-left,
   Memᴰ·append-right,
@@ -34,10 +34,11 @@ use Rattle.machine.specs.Flog.{freeOf, pending}
 use Rattle.machine.specs.Opening.{layoutIn, mends, pendingLanes, count}
 use Rattle.machine.specs.Book.{Entry, anyEntry, inFlightYet, lacksMapWord, lastWords}
 use Rattle.machine.specs.DemandThree.{Differ, Same}
+use Rattle.machine.proofs.Members.{one-out}
 use Rattle.machine.proofs.Once.{hit, count-same, count-change}
-use Rattle.machine.proofs.Inv.{Inv}
+use Rattle.machine.proofs.Inv.{LaneInv, Inv}
 use Rattle.machine.proofs.Finish.{finalStore}
-use Rattle.machine.proofs.Found.{ended, finals, pending-is, mends-are}
+use Rattle.machine.proofs.Found.{ended, last-next, finals, idle-ended, pending-is, mends-are}
 use Rattle.machine.proofs.Entries.{any-some, lane-none, lane-test}
 use Rattle.machine.proofs.BookLanes.{LaneOf, untouched, written, flyingLane, laneWith, lane-at, lane-flying, lane-moved}
 
@@ -59,12 +60,7 @@ module _ (g : Layout) (lanes : List Lane) where
   unfolding finals
   finals-out zero st m = absurd (List·Memᴰ·not-nil m)
   finals-out (suc n) st m = ⊎-elim (λ k. let r = finals-out n st k in (r .0, omega (arith, r .1), r .2, r .3))
-      (λ k. one (ended g (laneAt lanes n)) refl k) (List·Memᴰ·append-cases (finals g lanes n) m)
-    where
-      one : (t : Bool) → ended g (laneAt lanes n) ≡ t → List·Memᴰ st (cond t (finalStore (laneAt lanes n) ∷ []) [])
-          → (l : ℕ) × (l < suc n) × (ended g (laneAt lanes l) ≡ true) × (st ≡ finalStore (laneAt lanes l))
-      one true e k = (n, omega arith, e, List·Memᴰ·eq-of-singleton k)
-      one false e k = absurd (List·Memᴰ·not-nil k)
+      (λ k. let r = one-out (finalStore (laneAt lanes n)) _ st k in (n, omega arith, r .0, r .1)) (List·Memᴰ·append-cases (finals g lanes n) m)
 
 count-none : (n : ℕ) → count n (λ l. 0) 1 ≡ 0
 unfolding count
@@ -95,14 +91,9 @@ module _ (a : List ℕ) where
       → (e : Entry) × List·Memᴰ e b × (lacksMapWord a e ≡ true) × (st ≡ lastOf e)
   unfolding lastWords
   last-out [] st m = absurd (List·Memᴰ·not-nil m)
-  last-out (e ∷ b) st m = ⊎-elim (λ k. one (lacksMapWord a e) refl k)
+  last-out (e ∷ b) st m = ⊎-elim (λ k. let r = one-out (lastOf e) (lacksMapWord a e) st k in (e, List·Memᴰ·head refl, r .0, r .1))
       (λ k. let r = last-out b st k in (r .0, List·Memᴰ·tail (r .1), r .2, r .3))
       (List·Memᴰ·append-cases (cond (lacksMapWord a e) (lastOf e ∷ []) []) m)
-    where
-      one : (t : Bool) → lacksMapWord a e ≡ t → List·Memᴰ st (cond t (lastOf e ∷ []) [])
-          → (d : Entry) × List·Memᴰ d (e ∷ b) × (lacksMapWord a d ≡ true) × (st ≡ lastOf d)
-      one true t k = (e, List·Memᴰ·head refl, t, List·Memᴰ·eq-of-singleton k)
-      one false t k = absurd (List·Memᴰ·not-nil k)
 
   -- ---- which lanes lack only that
 
@@ -113,13 +104,9 @@ module _ (a : List ℕ) where
   lacks-flies e t = lt-ltb (e .tally) (writeStores (layoutIn a)) (omega (arith, eqb-true (e .tally + 1) (writeStores (layoutIn a)) t))
 
   with-ended : (e : Entry) → ended (layoutIn a) (laneWith a e) ≡ lacksMapWord a e
-  with-ended e = by-bool (inFlightYet a e) _ (λ t. rw (lane-flying a e t) (same (ℕ-discrete (e .tally) ((layoutIn a) .W + 4))))
+  with-ended e = by-bool (inFlightYet a e) _ (λ t. rw (lane-flying a e t) (sym (last-next (e .tally) ((layoutIn a) .W))))
       (λ t. rw (lane-moved a e t) (ne-eqb 0 ((layoutIn a) .W + 4) (λ p. omega arith)
       ∙ sym (by-bool (lacksMapWord a e) _ (λ v. true-false (sym (lacks-flies e v) ∙ t)) (λ v. v))))
-    where
-      same : Dec (e .tally ≡ (layoutIn a) .W + 4) → eqb (e .tally) ((layoutIn a) .W + 4) ≡ eqb (e .tally + 1) ((layoutIn a) .W + 5)
-      same (yes p) = eq-eqb (e .tally) ((layoutIn a) .W + 4) p ∙ sym (eq-eqb (e .tally + 1) ((layoutIn a) .W + 5) (omega arith))
-      same (no p) = ne-eqb (e .tally) ((layoutIn a) .W + 4) p ∙ sym (ne-eqb (e .tally + 1) ((layoutIn a) .W + 5) (λ q. p (omega arith)))
 
   -- counted by lanes
   last-count : (b : List Entry) → Differ b → ((e : Entry) → List·Memᴰ e b → e .lane < (layoutIn a) .N)
@@ -149,12 +136,11 @@ module _ (a : List ℕ) where
   module _ (b : List Entry) (f : Differ b) (A : List ℕ) (lanes : List Lane) (i : Inv (layoutIn a) A lanes)
       (at : (l : ℕ) → l < (layoutIn a) .N → LaneOf a b l (laneAt lanes l)) (lane-in : (e : Entry) → List·Memᴰ e b → e .lane < (layoutIn a) .N) where
     ended-is : (l : ℕ) → l < (layoutIn a) .N → ended (layoutIn a) (laneAt lanes l) ≡ laneLacks b l
-    ended-is l u = go (laneAt lanes l) (i .lane l u .still) (at l u)
+    ended-is l u = go (laneAt lanes l) (i .lane l u) (at l u)
       where
-        go : (r : Lane) → (r .busy ≡ false → r .made ≡ 0) → LaneOf a b l r → ended (layoutIn a) r ≡ laneLacks b l
-        go r still (untouched x n) =
-            ne-eqb (r .made) ((layoutIn a) .W + 4) (λ p. omega (arith, still (x .idle))) ∙ sym (lane-none (lacksMapWord a) b l n)
-        go r still (written e m p is) = ap (ended (layoutIn a)) is ∙ with-ended e ∙ sym (rw (← p) (lane-test (lacksMapWord a) b f e m))
+        go : (r : Lane) → LaneInv (layoutIn a) A l r → LaneOf a b l r → ended (layoutIn a) r ≡ laneLacks b l
+        go r w (untouched x n) = idle-ended (layoutIn a) A l r w (x .idle) ∙ sym (lane-none (lacksMapWord a) b l n)
+        go r w (written e m p is) = ap (ended (layoutIn a)) is ∙ with-ended e ∙ sym (rw (← p) (lane-test (lacksMapWord a) b f e m))
 
     -- opening's stores are their map words
     pub mends-last : Same (mends (layoutIn a) A ((layoutIn a) .N)) (lastWords a b)

@@ -1,39 +1,35 @@
--- A made arena is valid and opens: the block that counts is its first one, whose figures are the given ones,
--- and its map and flog are fresh, so that each of opening's tests passes.
+-- A made arena is valid and so opens: the block that counts is its first one, whose figures are the given ones, and its map and flog
+-- are fresh.
 use mathlib.Core.Path.{_≡_, refl, sym, ap, _∙_, subst}
 use mathlib.Core.Bool.{Bool, true, false, cond}
 use mathlib.Core.List.{List}
 use Prim.Native.Nat.{ℕ, _+_, _-_, _*_, _≤_, _<_}
 use native.Mathlib.Omega.{arith}
 use lib.Dec.{eqb}
-use lib.ListN.{length, getD, take, drop, replicate}
-use borrow.Author.Tests.{eq-eqb, ne-eqb, le-ltb}
+use lib.ListN.{length, getD, take, drop}
 use Rattle.words.specs.Word.{word}
-use Rattle.layout.specs.Figures.{lengthAllowed, Allowed, maxLanes}
+use Rattle.layout.specs.Figures.{lengthAllowed, Allowed}
 use Rattle.layout.specs.Place.{Layout, layoutOf}
-use Rattle.infoblock.specs.Info.{sound, infoBlockOf, flagsField, figuresOf, infoAllowed, infoWords}
+use Rattle.infoblock.specs.Info.{sound, infoBlockOf, flagsField, figuresOf, infoWords}
 use Rattle.layout.specs.declared.Figures.{Figures}
 use Rattle.format.proofs.Below.{Below, below-take}
-use Rattle.layout.proofs.Allowed.{of-allowed, layout-ok, layout-exact}
+use Rattle.layout.proofs.Allowed.{layout-ok, layout-exact}
 use Rattle.infoblock.proofs.InfoBlock.{length-of, info-in, counting-main}
-use Rattle.machine.specs.Lane.{idleLane, noLane}
+use Rattle.machine.specs.Lane.{idleLane}
 use Rattle.machine.specs.Handle.{laneAt}
 use Rattle.machine.specs.Making.{dataEnd}
-use Rattle.machine.specs.Opening.{figuresIn, layoutIn, openNumber, openOf, handleFor}
+use Rattle.machine.specs.Opening.{figuresIn, layoutIn, openNumber, openOf}
 use Rattle.machine.specs.Valid.{Sound, InfoOk, Valid}
-use Rattle.machine.proofs.Lanes.{found-at}
+use Rattle.machine.proofs.Opens.{zero-open, opened-lane}
 use Rattle.machine.proofs.Reflect.{length-ok, sound-ok}
+use Rattle.machine.proofs.Answers.{valid-opens}
 use Rattle.machine.proofs.FreshArena.{
   Fresh,
   lane-fresh,
   pending-none,
   mended-same,
   readable,
-  lanes-readable,
-  words-fine,
   no-bad-word,
-  no-two-pending,
-  each-once,
   settled,
 }
 use Rattle.machine.proofs.FreshInfo.{
@@ -45,7 +41,6 @@ use Rattle.machine.proofs.FreshInfo.{
   version-fresh,
   info-size-fresh,
   next-fresh,
-  header-fresh,
 }
 use Rattle.machine.proofs.MadeArena.{
   made,
@@ -80,6 +75,9 @@ pub record Given (first second : List ℕ) (f : Figures) (a : List ℕ) : Type 0
   pub size : lengthAllowed (length a) ≡ true
 
 module _ (first second : List ℕ) (f : Figures) (a : List ℕ) (d : Given first second f a) where
+  abbrev m : List ℕ
+  m = madeOf first second f a
+
   room : Room (layoutOf f) a (infoWords first second f)
   room =
       let most : length a ≤ 16777216 = length-of (length a) (d .size) .2 in
@@ -91,20 +89,20 @@ module _ (first second : List ℕ) (f : Figures) (a : List ℕ) (d : Given first
         below = info-below first second f (d .first-small) (d .second-small) (length a) (d .ok) most;
       }
 
-  pub same-length : length (madeOf first second f a) ≡ length a
+  pub same-length : length m ≡ length a
   same-length = made-length (layoutOf f) a (infoWords first second f) room
 
-  pub same-copy : take 4096 (madeOf first second f a) ≡ drop (length a - 4096) (madeOf first second f a)
+  pub same-copy : take 4096 m ≡ drop (length a - 4096) m
   same-copy = made-copy (layoutOf f) a (infoWords first second f) room (d .small)
 
-  pub kept : (j : ℕ) → 4096 ≤ j → j < 4 * dataEnd (layoutOf f) → getD (madeOf first second f a) j 0 ≡ getD a j 0
+  pub kept : (j : ℕ) → 4096 ≤ j → j < 4 * dataEnd (layoutOf f) → getD m j 0 ≡ getD a j 0
   kept = made-kept (layoutOf f) a (infoWords first second f) room
 
-  allowed : lengthAllowed (length (madeOf first second f a)) ≡ true
+  allowed : lengthAllowed (length m) ≡ true
   allowed = ap lengthAllowed same-length ∙ d .size
 
   main : List ℕ
-  main = take 4096 (madeOf first second f a)
+  main = take 4096 m
 
   main-size : length main ≡ 4096
   unfolding main
@@ -114,31 +112,31 @@ module _ (first second : List ℕ) (f : Figures) (a : List ℕ) (d : Given first
   unfolding main
   main-is = main-word (layoutOf f) a (infoWords first second f) room (d .small)
 
-  pub small-in : Below 256 (madeOf first second f a)
+  pub small-in : Below 256 m
   small-in = made-bytes (layoutOf f) a (infoWords first second f) room (d .small) .small
 
   main-small : Below 256 main
   unfolding main
-  main-small = below-take 256 4096 (madeOf first second f a) (omega arith) small-in
+  main-small = below-take 256 4096 m (omega arith) small-in
 
   main-sound : sound main ≡ true
   main-sound = sound-fresh first second f main main-size main-is
 
-  block : infoBlockOf (madeOf first second f a) ≡ main
+  block : infoBlockOf m ≡ main
   unfolding main
   block =
-      info-in (madeOf first second f a) allowed
-      ∙ counting-main main (drop (length (madeOf first second f a) - 4096) (madeOf first second f a)) main-sound
+      info-in m allowed
+      ∙ counting-main main (drop (length m - 4096) m) main-sound
 
-  pub figures-in : figuresIn (madeOf first second f a) ≡ f
+  pub figures-in : figuresIn m ≡ f
   figures-in = ap figuresOf block ∙ figures-fresh first second f main main-size main-is
 
-  pub layout-in : layoutIn (madeOf first second f a) ≡ layoutOf f
+  pub layout-in : layoutIn m ≡ layoutOf f
   layout-in = ap layoutOf figures-in
 
-  pub fresh : Fresh (layoutIn (madeOf first second f a)) (madeOf first second f a)
+  pub fresh : Fresh (layoutIn m) m
   fresh =
-      subst (λ (g : Layout). Fresh g (madeOf first second f a)) (sym layout-in)
+      subst (λ (g : Layout). Fresh g m) (sym layout-in)
       (made-fresh (layoutOf f) a (infoWords first second f) room)
 
   sound-block : Sound main
@@ -155,67 +153,32 @@ module _ (first second : List ℕ) (f : Figures) (a : List ℕ) (d : Given first
         figures = subst (λ (x : Figures). Allowed x (length a)) (sym (figures-fresh first second f main main-size main-is)) (d .ok);
       }
 
-  pub valid : Valid (madeOf first second f a)
+  pub valid : Valid m
   valid = record {
     size = length-ok _ allowed;
     info = subst Sound (sym block) sound-block;
     figures = rw (block, same-length) info-ok;
     flags = ap flagsField block ∙ flags-fresh first second f main main-size main-is;
-    lanes = readable (layoutIn (madeOf first second f a)) (madeOf first second f a) fresh;
-    words = no-bad-word (layoutIn (madeOf first second f a)) (madeOf first second f a) fresh;
-    settled = settled (layoutIn (madeOf first second f a)) (madeOf first second f a) fresh;
+    lanes = readable (layoutIn m) m fresh;
+    words = no-bad-word (layoutIn m) m fresh;
+    settled = settled (layoutIn m) m fresh;
   }
 
-  info-allowed : infoAllowed (infoBlockOf (madeOf first second f a)) (length (madeOf first second f a)) ≡ true
-  info-allowed =
-      rw (
-        block,
-        same-length,
-        header-fresh first second f main main-size main-is,
-        figures-fresh first second f main main-size main-is,
-        of-allowed f (length a) (d .ok),
-      )
-
-  not-empty : eqb (length (infoBlockOf (madeOf first second f a))) 0 ≡ false
-  not-empty = ne-eqb (length (infoBlockOf (madeOf first second f a))) 0 (λ z. omega (arith, ap length block, main-size))
-
-  flags-zero : eqb (flagsField (infoBlockOf (madeOf first second f a))) 0 ≡ true
-  flags-zero = eq-eqb _ 0 (ap flagsField block ∙ flags-fresh first second f main main-size main-is)
-
-  pub opens : (room : ℕ) → (layoutIn (madeOf first second f a)) .I ≤ room → openNumber (madeOf first second f a) room ≡ 0
-  unfolding openNumber
-  opens room h =
-      let g = layoutIn (madeOf first second f a) in
-      let m = madeOf first second f a in
-      rw (
-        allowed,
-        not-empty,
-        info-allowed,
-        flags-zero,
-        le-ltb room (g .I) h,
-        lanes-readable g m fresh,
-        words-fine g m fresh,
-        no-two-pending g m fresh,
-        each-once g m fresh,
-      )
+  pub opens : (room : ℕ) → (layoutIn m) .I ≤ room → openNumber m room ≡ 0
+  opens room h = zero-open m room (valid-opens m small-in valid) h
 
   -- none mended and no byte changed, whether or not there is room
-  pub opened-mended : (work : List ℕ) → (openOf (madeOf first second f a) work) .mended ≡ 0
+  pub opened-mended : (work : List ℕ) → (openOf m work) .mended ≡ 0
   unfolding openOf
   opened-mended work =
-      let m = madeOf first second f a in
       rw (pending-none (layoutIn m) m fresh) (same (eqb (openNumber m (length work)) 0) 0)
 
-  pub opened-arena : (work : List ℕ) → (openOf (madeOf first second f a) work) .arena ≡ madeOf first second f a
+  pub opened-arena : (work : List ℕ) → (openOf m work) .arena ≡ m
   unfolding openOf
   opened-arena work =
-      let m = madeOf first second f a in
       rw (mended-same (layoutIn m) m fresh) (same (eqb (openNumber m (length work)) 0) m)
 
-  pub opened-lane : (work : List ℕ) (l : ℕ) → (layoutIn (madeOf first second f a)) .I ≤ length work → l < (layoutIn (madeOf first second f a)) .N
-      → laneAt ((openOf (madeOf first second f a) work) .handle .lanes) l ≡ idleLane ((layoutIn (madeOf first second f a)) .E + l) 1 2
-  unfolding openOf handleFor
-  opened-lane work l h u =
-      let g = layoutIn (madeOf first second f a) in
-      let m = madeOf first second f a in
-      rw (opens (length work) h) (found-at g m (g .N) l (replicate (maxLanes - g .N) noLane) u ∙ lane-fresh g m fresh l u)
+  pub opened-fresh : (work : List ℕ) (l : ℕ) → (layoutIn m) .I ≤ length work → l < (layoutIn m) .N
+      → laneAt ((openOf m work) .handle .lanes) l ≡ idleLane ((layoutIn m) .E + l) 1 2
+  opened-fresh work l h u =
+      opened-lane m work (unfold openOf in (opens (length work) h)) l u ∙ lane-fresh (layoutIn m) m fresh l u

@@ -1,6 +1,6 @@
 -- The claim about making: its row by its tests, and of an accepted order the made arena, whose info block, map and flog are fresh.
 use mathlib.Core.Path.{_≡_, refl, ap, _∙_}
-use mathlib.Core.Logic.{_≢_, _⊎_, ⊎-elim}
+use mathlib.Core.Logic.{_≢_, ⊎-elim}
 use mathlib.Core.Bool.{true, not, _&&_}
 use mathlib.Core.List.{List}
 use Prim.Native.Nat.{ℕ, _+_, _*_, _%_, _<_}
@@ -37,7 +37,7 @@ use Rattle.machine.proofs.MadeValid.{
   opens,
   opened-mended,
   opened-arena,
-  opened-lane,
+  opened-fresh,
 }
 
 sizes-ok : (o : Order) → sizesAllowed (o .size) (o .sectors) (o .lanes) ≡ true → SizesOk (o .size) (o .sectors) (o .lanes)
@@ -115,35 +115,17 @@ only o a k =
       eq-eqb (length (o .second)) 16 (k .second),
     )
 
--- the made layout's sectors, lanes and blocks
-module _ (size sectors lanes : ℕ) where
-  made-sectors : (layoutOf (madeFigures size sectors lanes)) .E ≡ sectors
-  unfolding layoutOf madeFigures
-  made-sectors = refl
-
-  made-lanes : (layoutOf (madeFigures size sectors lanes)) .N ≡ lanes
-  unfolding layoutOf madeFigures
-  made-lanes = refl
-
-  made-blocks : (layoutOf (madeFigures size sectors lanes)) .I ≡ sectors + lanes
-  unfolding layoutOf madeFigures
-  made-blocks = refl
-
-  -- where the data blocks end, in bytes
-  made-data : (size ≡ 512) ⊎ (size ≡ 4096) → 4 * dataEnd (layoutOf (madeFigures size sectors lanes)) ≡ 4096 + (sectors + lanes) * size
-  unfolding layoutOf madeFigures
-  made-data h =
-      let z : size % 4 ≡ 0 = ⊎-elim (λ e. omega arith) (λ e. omega arith) h in
-      omega (arith, quarter (sectors + lanes) size z)
-
 module _ (o : Order) (a : List ℕ) (small : Small a) (first : Small (o .first)) (second : Small (o .second)) (e : (makeOf o a) .number ≡ 0) where
   figures : Figures
   figures = madeFigures (o .size) (o .sectors) (o .lanes)
 
+  abbrev m : List ℕ
+  m = madeOf (o .first) (o .second) figures a
+
   order : OrderOk o (length a)
   order = accepts o a e
 
-  arena : (makeOf o a) .arena ≡ madeOf (o .first) (o .second) figures a
+  arena : (makeOf o a) .arena ≡ m
   unfolding makeOf madeArena figures
   arena = rw e
 
@@ -157,26 +139,29 @@ module _ (o : Order) (a : List ℕ) (small : Small a) (first : Small (o .first))
   pub made-small : Small ((makeOf o a) .arena)
   made-small = rw arena (small-in (o .first) (o .second) figures a given)
 
-  made-layout : layoutIn (madeOf (o .first) (o .second) figures a) ≡ layoutOf figures
+  made-layout : layoutIn m ≡ layoutOf figures
   made-layout = layout-in (o .first) (o .second) figures a given
 
-  sectors-in : (layoutIn (madeOf (o .first) (o .second) figures a)) .E ≡ o .sectors
-  unfolding figures
-  sectors-in = ap (λ (g : Layout). g .E) made-layout ∙ made-sectors (o .size) (o .sectors) (o .lanes)
+  sectors-in : (layoutIn m) .E ≡ o .sectors
+  unfolding figures layoutOf madeFigures
+  sectors-in = ap (λ (g : Layout). g .E) made-layout
 
-  lanes-in : (layoutIn (madeOf (o .first) (o .second) figures a)) .N ≡ o .lanes
-  unfolding figures
-  lanes-in = ap (λ (g : Layout). g .N) made-layout ∙ made-lanes (o .size) (o .sectors) (o .lanes)
+  lanes-in : (layoutIn m) .N ≡ o .lanes
+  unfolding figures layoutOf madeFigures
+  lanes-in = ap (λ (g : Layout). g .N) made-layout
 
-  blocks-in : (layoutIn (madeOf (o .first) (o .second) figures a)) .I ≡ o .sectors + o .lanes
-  unfolding figures
-  blocks-in = ap (λ (g : Layout). g .I) made-layout ∙ made-blocks (o .size) (o .sectors) (o .lanes)
+  blocks-in : (layoutIn m) .I ≡ o .sectors + o .lanes
+  unfolding figures layoutOf madeFigures
+  blocks-in = ap (λ (g : Layout). g .I) made-layout
 
+  -- where the data blocks end, in bytes
   data-end : 4 * dataEnd (layoutOf figures) ≡ 4096 + (o .sectors + o .lanes) * o .size
-  unfolding figures
-  data-end = made-data (o .size) (o .sectors) (o .lanes) (order .sizes .size-ok)
+  unfolding figures layoutOf madeFigures
+  data-end =
+      let z : o .size % 4 ≡ 0 = ⊎-elim (λ e. omega arith) (λ e. omega arith) (order .sizes .size-ok) in
+      omega (arith, quarter (o .sectors + o .lanes) (o .size) z)
 
-  map-zero : (s : ℕ) → s < o .sectors → mapWord (layoutIn (madeOf (o .first) (o .second) figures a)) (madeOf (o .first) (o .second) figures a) s ≡ 0
+  map-zero : (s : ℕ) → s < o .sectors → mapWord (layoutIn m) m s ≡ 0
   map-zero s u = fresh (o .first) (o .second) figures a given .map s (omega (arith, sectors-in))
 
   made-arena : MadeArena o a
@@ -190,7 +175,7 @@ module _ (o : Order) (a : List ℕ) (small : Small a) (first : Small (o .first))
     mended = λ work. rw arena (opened-mended (o .first) (o .second) figures a given work);
     arena = λ work. rw arena (opened-arena (o .first) (o .second) figures a given work);
     lanes = λ work l h u. rw arena
-        (opened-lane (o .first) (o .second) figures a given work l (omega (arith, blocks-in)) (omega (arith, lanes-in))
+        (opened-fresh (o .first) (o .second) figures a given work l (omega (arith, blocks-in)) (omega (arith, lanes-in))
         ∙ ap (λ (n : ℕ). idleLane (n + l) 1 2) sectors-in);
     map = λ s u. rw arena (map-zero s u);
     zeroes = λ s u. rw arena (ap (λ (w : ℕ). readingOf (flagsOf w)) (map-zero s u));

@@ -7,6 +7,7 @@ use native.Mathlib.Omega.{arith}
 use native.Mathlib.Decide.{ℕ-discrete}
 use Rattle.layout.specs.Place.{Layout, LayoutOk, inMap, inFlog}
 use Rattle.format.specs.MapWord.{blockOf, mappedTo}
+use Rattle.format.proofs.Tests.{true-false}
 use Rattle.format.proofs.MapWord.{block-mapped}
 use Rattle.machine.specs.Stores.{Store, stored}
 use Rattle.machine.specs.Flog.{mapBlock, flogWord}
@@ -21,7 +22,7 @@ module _ (g : Layout) (ok : LayoutOk g) (a : List ℕ) (r : Arena g a) (s b : �
   map-fits = record { range = si; small = omega (arith, ok .small) }
 
   pub map-flog : (j x k : ℕ) → j < g .N → x < 2 → k < 4 → flogWord g (stored g (mapStore s b) a) j x k ≡ flogWord g a j x k
-  map-flog j x k v c d = elsewhere g ok a (inMap s) (inFlog j x k) (mappedTo b) si (v, c, d) (λ e. let z : _≡_ {A = ℕ} 0 1 = cc in omega arith)
+  map-flog j x k v c d = elsewhere g ok a (inMap s) (inFlog j x k) (mappedTo b) si (v, c, d) (λ e. true-false (cc))
 
   pub map-other : (t : ℕ) → t < g .E → t ≢ s → mapBlock g (stored g (mapStore s b) a) t ≡ mapBlock g a t
   map-other t v n = ap (blockOf t) (elsewhere g ok a (inMap s) (inMap t) (mappedTo b) si v (λ e. n (cc)))

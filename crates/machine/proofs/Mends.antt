@@ -1,8 +1,8 @@
 -- The stores of an opening are map words, one for each pending lane. Where no two pending lanes name one sector, each store moves
 -- the lane's old block from the map to the free blocks and its new block into the map, so that counts of blocks come out even.
 use mathlib.Core.Path.{_≡_, refl, sym, ap, _∙_}
-use mathlib.Core.Logic.{_≢_, _⊎_, inl, inr}
-use mathlib.Core.List.{List, [], _∷_, append-nil, List·Memᴰ, List·Memᴰ·cases-cons, List·Memᴰ·not-nil, List·Memᴰ·append-cases}
+use mathlib.Core.Logic.{_≢_}
+use mathlib.Core.List.{List, [], _∷_, append-nil}
 use mathlib.Core.Bool.{Bool, true, false, cond}
 use Prim.Native.Nat.{ℕ, zero, suc, _+_, _≤_, _<_}
 use native.Mathlib.Omega.{arith}
@@ -12,13 +12,16 @@ use lib.ListN.{length, take, length-append}
 use lib.Seq.{take-all, take-nil, take-append-le}
 use borrow.Author.Tests.{eqb-true, ltb-true}
 use Rattle.layout.specs.Place.{Layout, LayoutOk}
+use Rattle.format.specs.MapWord.{badWord}
 use Rattle.format.proofs.Tests.{by-bool, all-elim}
+use Rattle.format.proofs.MapWord.{block-in}
 use Rattle.machine.specs.Stores.{stored, putAll}
-use Rattle.machine.specs.Flog.{mapBlock, flogWord, newerHalf, logged, freeOf, pending, spareOf}
+use Rattle.machine.specs.Flog.{mapWord, mapBlock, flogWord, newerHalf, logged, freeOf, pending, spareOf}
 use Rattle.machine.specs.Opening.{laneReadable, mendStore, mends, pendingLanes, count}
 use Rattle.machine.specs.Valid.{Readable}
+use Rattle.machine.proofs.Members.{Each, each-none, each-append, one-length, one-out}
 use Rattle.machine.proofs.Once.{hit, count-suc, count-change}
-use Rattle.machine.proofs.Stores.{Fits, Each, Arena, putAll-one, putAll-arena}
+use Rattle.machine.proofs.Stores.{Fits, Arena, putAll-one, putAll-arena}
 use Rattle.machine.proofs.MapStores.{map-fits, map-flog, map-other, map-here, map-keeps}
 use Rattle.machine.proofs.Inv.{same-newer}
 
@@ -28,6 +31,10 @@ unfolding laneReadable
 readable-of g a l e =
     let h = all-elim (ltb (newerHalf g a l) 2 ∷ ltb (logged g a l 0) (g .E) ∷ ltb (logged g a l 1) (g .I) ∷ ltb (logged g a l 2) (g .I) ∷ []) e in
     record { newer = ltb-true _ _ (h .0); sector = ltb-true _ _ (h .1 .0); old = ltb-true _ _ (h .1 .1 .0); new = ltb-true _ _ (h .1 .1 .1 .0) }
+
+-- and rule 7: a sector's word that passes stands for a block in range
+pub word-in : (g : Layout) → LayoutOk g → (a : List ℕ) (s : ℕ) → s < g .E → badWord (g .I) (mapWord g a s) ≡ false → mapBlock g a s < g .I
+word-in g ok a s u = block-in (g .I) s (mapWord g a s) (omega (arith, ok .blocks))
 
 -- a pending lane's sector is mapped to its old block
 pub pending-old : (g : Layout) (a : List ℕ) (l : ℕ) → pending g a l ≡ true → mapBlock g a (logged g a l 0) ≡ freeOf g a l
@@ -40,11 +47,7 @@ module _ (g : Layout) (a : List ℕ) where
   pub length-mends : (n : ℕ) → length (mends g a n) ≡ pendingLanes g a n
   unfolding mends pendingLanes
   length-mends zero = refl
-  length-mends (suc n) = rw length-append (omega (arith, length-mends n, one (pending g a n)))
-    where
-      one : (t : Bool) → length (cond t (mendStore g a n ∷ []) []) ≡ cond t 1 0
-      one true = refl
-      one false = refl
+  length-mends (suc n) = rw length-append (omega (arith, length-mends n, one-length (mendStore g a n) (pending g a n)))
 
   -- where none of the lanes below n is pending
   pub none-mended : (n : ℕ) → ((l : ℕ) → l < n → pending g a l ≡ false) → mends g a n ≡ []
@@ -55,13 +58,13 @@ module _ (g : Layout) (a : List ℕ) where
   pub none-pending : (n : ℕ) → ((l : ℕ) → l < n → pending g a l ≡ false) → pendingLanes g a n ≡ 0
   none-pending n h = sym (length-mends n) ∙ ap length (none-mended n h)
 
-  one-more : (n : ℕ) → pendingLanes g a (suc n) ≡ pendingLanes g a n + cond (pending g a n) 1 0
+  pub pending-next : (n : ℕ) → pendingLanes g a (suc n) ≡ pendingLanes g a n + cond (pending g a n) 1 0
   unfolding pendingLanes
-  one-more n = refl
+  pending-next n = refl
 
   -- one more lane counts one more at most
   fewer : (n : ℕ) → (pendingLanes g a n ≤ pendingLanes g a (suc n)) × (pendingLanes g a (suc n) ≤ pendingLanes g a n + 1)
-  fewer n = rw (one-more n) (by-bool (pending g a n) _ (λ t. rw t (omega arith, omega arith)) (λ t. rw t (omega arith, omega arith)))
+  fewer n = rw (pending-next n) (by-bool (pending g a n) _ (λ t. rw t (omega arith, omega arith)) (λ t. rw t (omega arith, omega arith)))
 
   -- a pending lane below n is one more than those below it
   pending-more : (n l : ℕ) → l < n → pending g a l ≡ true → pendingLanes g a l < pendingLanes g a n
@@ -69,7 +72,7 @@ module _ (g : Layout) (a : List ℕ) where
   pending-more (suc n) l u p = go (ℕ-discrete l n) (λ v. pending-more n l v p)
     where
       go : Dec (l ≡ n) → (l < n → pendingLanes g a l < pendingLanes g a n) → pendingLanes g a l < pendingLanes g a (suc n)
-      go (yes e) ih = let t : pending g a n ≡ true = rw e at p in rw (e, one-more n, t) (omega arith)
+      go (yes e) ih = let t : pending g a n ≡ true = rw e at p in rw (e, pending-next n, t) (omega arith)
       go (no d) ih = omega (arith, ih (omega arith), fewer n .0)
 
   -- a lane is below n exactly if fewer than k pending lanes are below it
@@ -117,7 +120,7 @@ module _ (g : Layout) (a : List ℕ) where
   mends-same n e = rw e (append-nil (mends g a n))
 
   -- what holds of the arena holds of it with any of its lanes mended, where each store keeps it
-  mend-keeps : (P : List ℕ → Type 0) → P a → (m : ℕ)
+  pub mend-keeps : (P : List ℕ → Type 0) → P a → (m : ℕ)
       → ((n : ℕ) → n < m → pending g a n ≡ true → P (putAll g (mends g a n) a) → P (stored g (mendStore g a n) (putAll g (mends g a n) a)))
       → P (putAll g (mends g a m) a)
   mend-keeps P p zero f = unfold mends putAll in p
@@ -137,24 +140,10 @@ module _ (g : Layout) (ok : LayoutOk g) (a : List ℕ) (r : Arena g a) (f : (l :
   -- each store can be made
   pub mends-fits : (n : ℕ) → n ≤ g .N → Each (Fits g) (mends g a n)
   unfolding mends
-  mends-fits zero u st m = absurd (List·Memᴰ·not-nil m)
-  mends-fits (suc n) u st m = go (List·Memᴰ·append-cases (mends g a n) m) (λ x. mends-fits n (omega arith) st x)
-    where
-      p : Readable g a n
-      p = part n u
-
-      last : (st ≡ mendStore g a n) ⊎ List·Memᴰ st [] → Fits g st
-      last (inl e) = rw e (map-fits g ok a r (logged g a n 0) (logged g a n 2) (p .sector) (p .new))
-      last (inr y) = absurd (List·Memᴰ·not-nil y)
-
-      one : (t : Bool) → List·Memᴰ st (cond t (mendStore g a n ∷ []) []) → Fits g st
-      one true x = last (List·Memᴰ·cases-cons x)
-      one false x = absurd (List·Memᴰ·not-nil x)
-
-      go : List·Memᴰ st (mends g a n) ⊎ List·Memᴰ st (cond (pending g a n) (mendStore g a n ∷ []) []) → (List·Memᴰ st (mends g a n) → Fits g st)
-          → Fits g st
-      go (inl x) ih = ih x
-      go (inr x) ih = one (pending g a n) x
+  mends-fits zero u = each-none (Fits g)
+  mends-fits (suc n) u = each-append (Fits g) (mends g a n) _ (mends-fits n (omega arith))
+      (λ st m. let p = part n u in
+      rw (one-out (mendStore g a n) (pending g a n) st m .1) (map-fits g ok a r (logged g a n 0) (logged g a n 2) (p .sector) (p .new)))
 
   -- no word of a log changes
   pub mends-flog : (n : ℕ) → n ≤ g .N → (l h k : ℕ) → l < g .N → h < 2 → k < 4

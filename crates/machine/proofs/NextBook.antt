@@ -1,6 +1,6 @@
 -- What a start and a step do to a book: a start adds an entry with no store, and a step adds one store to the lane's write.
 use mathlib.Core.Path.{_≡_, sym, ap, _∙_}
-use mathlib.Core.Logic.{_≢_, _⊎_, inl, inr, ⊎-elim}
+use mathlib.Core.Logic.{_≢_}
 use mathlib.Core.List.{
   List,
   [],
@@ -9,7 +9,6 @@ use mathlib.Core.List.{
   List·Memᴰ,
   List·Memᴰ·head,
   List·Memᴰ·tail,
-  List·Memᴰ·cases-cons,
   List·Memᴰ·eq-of-singleton,
   Memᴰ·map,
   Memᴰ·of-map,
@@ -21,42 +20,35 @@ use lib.ListN.{length}
 use borrow.Author.Tests.{eq-eqb, ne-eqb}
 use Rattle.machine.specs.declared.lane.Lane.{Lane}
 use Rattle.machine.specs.Lane.{writeStores}
-use Rattle.machine.specs.Stores.{Store, stored, putAll}
+use Rattle.machine.specs.Stores.{Store, stored}
 use Rattle.machine.specs.Opening.{figuresIn, layoutIn}
 use Rattle.machine.specs.Valid.{Small}
 use Rattle.machine.specs.Writing.{laneStored}
 use Rattle.machine.specs.Book.{Entry, kept}
+use Rattle.machine.proofs.Members.{each-more}
 use Rattle.machine.proofs.Stores.{putAll-one}
-use Rattle.machine.proofs.Entries.{same-entry, differ-retally, retally, oneMore}
+use Rattle.machine.proofs.Entries.{entryOf, Unused, same-entry, differ-retally, retally, oneMore}
 use Rattle.machine.proofs.FirstArena.{First}
-use Rattle.machine.proofs.BookStores.{storeOf, EntryOk, entry-like, BookOk, kept-more}
+use Rattle.machine.proofs.BookStores.{booked, storeOf, EntryOk, entry-like, BookOk, kept-more}
 use Rattle.machine.proofs.BookLanes.{laneWith, lane-stored, LaneOf, untouched, written}
 
 -- ---- a start
 
--- a write that was started
-abbrev pub newEntry : ℕ → ℕ → Entry
-newEntry l s = record { lane = l; sector = s; tally = 0 }
-
 module _ (b : List Entry) (l s : ℕ) where
   pub new-ok : (a : List ℕ) (bytes : ℕ → List ℕ) → BookOk a bytes b → l < (layoutIn a) .N → s < (layoutIn a) .E
-      → ((d : Entry) → List·Memᴰ d b → (d .lane ≢ l) × (d .sector ≢ s)) → BookOk a bytes (newEntry l s ∷ b)
+      → Unused b l s → BookOk a bytes (entryOf l s 0 ∷ b)
   new-ok a bytes o u v f = record {
-    each = λ d m. each d (List·Memᴰ·cases-cons m);
+    each = each-more (EntryOk a bytes) (entryOf l s 0) b new (o .each);
     differ = (λ d m. (λ p. f d m .0 (sym p), λ p. f d m .1 (sym p)), o .differ);
   }
     where
-      new : EntryOk a bytes (newEntry l s)
+      new : EntryOk a bytes (entryOf l s 0)
       new = record { lane-in = u; sector-in = v; tally-in = omega arith; small = λ q. absurd (omega arith); size = λ q. absurd (omega arith) }
 
-      each : (d : Entry) → (d ≡ newEntry l s) ⊎ List·Memᴰ d b → EntryOk a bytes d
-      each d (inl p) = rw p new
-      each d (inr m) = o .each d m
-
   -- the other lanes
-  pub new-other : (a : List ℕ) (j : ℕ) → j ≢ l → (r : Lane) → LaneOf a b j r → LaneOf a (newEntry l s ∷ b) j r
+  pub new-other : (a : List ℕ) (j : ℕ) → j ≢ l → (r : Lane) → LaneOf a b j r → LaneOf a (entryOf l s 0 ∷ b) j r
   new-other a j n r (untouched w f) =
-      untouched w (λ d m. ⊎-elim (λ p k. n (sym k ∙ ap (λ (c : Entry). c .lane) p)) (f d) (List·Memᴰ·cases-cons m))
+      untouched w (each-more (λ (d : Entry). d .lane ≢ j) (entryOf l s 0) b (λ p. n (sym p)) f)
   new-other a j n r (written d m p w) = written d (List·Memᴰ·tail m) p w
 
 -- ---- a step
@@ -102,8 +94,8 @@ module _ (a : List ℕ) (bytes : ℕ → List ℕ) (x : First a) (b : List Entry
     differ = differ-retally (oneMore l) b (o .differ);
   }
 
-  pub more-arena : putAll (layoutIn a) (kept a bytes (map (retally (oneMore l)) b)) a
-      ≡ stored (layoutIn a) (storeOf a bytes e (e .tally)) (putAll (layoutIn a) (kept a bytes b) a)
+  pub more-arena : booked a bytes (map (retally (oneMore l)) b)
+      ≡ stored (layoutIn a) (storeOf a bytes e (e .tally)) (booked a bytes b)
   more-arena =
       kept-more a bytes x (oneMore l) (st ∷ []) b more-ok (λ d n. grows d (ℕ-discrete (d .lane) l)) (λ d n. added d n (ℕ-discrete (d .lane) l))
       (λ su n. record {

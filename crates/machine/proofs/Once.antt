@@ -1,4 +1,5 @@
--- How often a number is among the first n values of f, and what a change of f at one index does to it.
+-- How often a number is among the first n values of f, and what a change of f at one index does to it. So a write that ends, which swaps
+-- a mapped and a free block, leaves every block mapped or free once.
 use mathlib.Core.Path.{_≡_, refl, sym, ap, ap₂, _∙_}
 use mathlib.Core.Logic.{_≢_}
 use mathlib.Core.Bool.{Bool, true, false, cond}
@@ -113,10 +114,6 @@ module _ (I E N : ℕ) (m f : ℕ → ℕ) (once : Once I E N m f) where
   pub free-apart : (l l′ : ℕ) → l < N → l′ < N → f l < I → l ≢ l′ → f l ≢ f l′
   unfolding Once
   free-apart l l′ h k i d e = absurd (omega (arith, once (f l) i, count-two N f (f l) l l′ h k d refl (sym e)))
-
-  pub mapped-apart : (s s′ : ℕ) → s < E → s′ < E → m s < I → s ≢ s′ → m s ≢ m s′
-  unfolding Once
-  mapped-apart s s′ h k i d e = absurd (omega (arith, once (m s) i, count-two E m (m s) s s′ h k d refl (sym e)))
 
   -- a write that ends: its sector is mapped to the lane's free block, and the block that it was mapped to is the lane's
   pub swap-once : (m′ f′ : ℕ → ℕ) (s l : ℕ) → s < E → l < N

@@ -30,6 +30,7 @@ use Rattle.machine.specs.Opening.{figuresIn, layoutIn}
 use Rattle.machine.specs.History.{write, State, Reply, justNumber, reply, after, run, replies}
 use Rattle.machine.specs.Book.{Entry, anyEntry, inFlightYet, bookNumber, noted, bookReply}
 use Rattle.machine.specs.DemandThree.{Differ, wholeWrites}
+use Rattle.machine.proofs.Members.{each-more}
 use Rattle.machine.proofs.Calls.{lanes-out}
 use Rattle.machine.proofs.Entries.{Far, far-is, far-sym, any-none}
 use Rattle.machine.proofs.FirstArena.{First, first-word}
@@ -116,8 +117,8 @@ module _ (a : List ℕ) (bytes : ℕ → List ℕ) (x : First a) where
       let o = each w (List·Memᴰ·head refl) in
       let r = write-next b y z full w (o .0) (o .1) (λ e m. far e w m (List·Memᴰ·head refl)) in
       let k = one-by-one ws (w ∷ b) (after y (write (w .lane) (w .sector) (bytes (w .lane)))) (r .1)
-      (λ e m. ⊎-elim (λ p. rw p (o .1)) (full e) (List·Memᴰ·cases-cons m)) (λ e m. each e (List·Memᴰ·tail m)) (d .1)
-      (λ e f m n. ⊎-elim (λ p. rw p (d .0 f n)) (λ q. far e f q (List·Memᴰ·tail n)) (List·Memᴰ·cases-cons m)) in
+      (each-more (λ (e : Entry). e .tally ≡ writeStores (layoutIn a)) w b (o .1) full) (λ e m. each e (List·Memᴰ·tail m)) (d .1)
+      (λ e f m n. each-more (λ (c : Entry). Far c f) w b (d .0 f n) (λ c q. far c f q (List·Memᴰ·tail n)) e m) in
       record {
         answers = ap₂ {C = List Reply} (λ p q. p ∷ q) (r .0) (k .answers);
         book = k .book;

@@ -1,21 +1,27 @@
--- What an opening that answers 0 found, and the answer where all but the work buffer is in order.
-use mathlib.Core.Path.{_≡_, _∙_}
+-- What an opening that answers 0 found and gives. No rule applied but perhaps the fifth, so the answer goes by the work buffer alone; the
+-- handle has the info block's figures, and each lane's record as its log has it.
+use mathlib.Core.Path.{_≡_, ap, _∙_}
 use mathlib.Core.List.{List}
-use mathlib.Core.Bool.{Bool, false, cond, not, _||_}
-use Prim.Native.Nat.{ℕ, _≤_}
+use mathlib.Core.Bool.{Bool, true, false, cond, not, _||_}
+use Prim.Native.Nat.{ℕ, _≤_, _<_}
 use lib.Dec.{eqb, ltb}
 use lib.ListN.{length}
 use borrow.Author.Tests.{ltb-false, le-ltb, not-false}
 use Rattle.format.specs.Tests.{every, some}
 use Rattle.layout.specs.Figures.{lengthAllowed}
-use Rattle.layout.specs.Place.{Layout}
+use Rattle.layout.specs.Place.{Layout, layoutOf}
 use Rattle.format.specs.MapWord.{badWord}
 use Rattle.infoblock.specs.Info.{infoBlockOf, infoAllowed, flagsField}
 use Rattle.format.proofs.Tests.{or-false, every-intro, every-elim, some-intro, some-elim}
+use Rattle.machine.specs.declared.lane.Lane.{Lane}
+use Rattle.machine.specs.declared.handle.Handle.{Handle}
+use Rattle.machine.specs.Handle.{laneAt}
 use Rattle.machine.specs.Flog.{mapWord, mapBlock, freeOf}
-use Rattle.machine.specs.Opening.{layoutIn, laneReadable, mended, twoPending, eachOnce, openNumber}
+use Rattle.machine.specs.Opening.{figuresIn, layoutIn, laneReadable, mended, twoPending, eachOnce, openNumber, foundLane, handleFor, openOf}
 use Rattle.machine.specs.Valid.{Small}
+use Rattle.machine.specs.DemandTwo.{AllIdle}
 use Rattle.machine.proofs.Rows.{passed}
+use Rattle.machine.proofs.Lanes.{found-at}
 use Rattle.machine.proofs.Described.{Described, described-layout, described-arena}
 use Rattle.machine.proofs.Ghosts.{Judged}
 
@@ -60,14 +66,45 @@ module _ (a : List ℕ) (room : ℕ) where
       let d : Described a = record { size = not-false _ (p1 .0); block = p2 .0; allowed = not-false _ (p3 .0); flags = not-false _ (p4 .0) } in
       (record { info = d; lanes = p6 .0; words = p7 .0; settled = p8 .0 }, ltb-false _ _ (p5 .0))
 
+-- ---- what it gives
+
+pub handle-lane : (a : List ℕ) (l : ℕ) → l < (layoutIn a) .N → laneAt ((handleFor a) .lanes) l ≡ foundLane (layoutIn a) a l
+unfolding handleFor
+handle-lane a l u = found-at (layoutIn a) a ((layoutIn a) .N) l _ u
+
+module _ (a work : List ℕ) (e : (openOf a work) .number ≡ 0) where
+  pub opened-handle : (openOf a work) .handle ≡ handleFor a
+  unfolding openOf
+  opened-handle = rw e
+
+  pub opened-figures : (openOf a work) .handle .figures ≡ figuresIn a
+  unfolding handleFor
+  opened-figures = ap (λ (h : Handle). h .figures) opened-handle
+
+  pub opened-lane : (l : ℕ) → l < (layoutIn a) .N → laneAt ((openOf a work) .handle .lanes) l ≡ foundLane (layoutIn a) a l
+  opened-lane l u = rw opened-handle (handle-lane a l u)
+
+  pub opened-idle : AllIdle ((openOf a work) .handle)
+  unfolding layoutOf
+  opened-idle l u = ap (λ (r : Lane). r .busy) (opened-lane l (rw opened-figures at u))
+
+-- ---- what it found
+
+-- rules 6 and 7 passed, lane by lane and word by word
+pub lanes-pass : (g : Layout) (a : List ℕ) → lanesLost g a ≡ false → (l : ℕ) → l < g .N → laneReadable g a l ≡ true
+lanes-pass g a e = every-elim (g .N) (laneReadable g a) (not-false _ e)
+
+pub words-pass : (g : Layout) (a : List ℕ) → wordBad g a ≡ false → (s : ℕ) → s < g .E → badWord (g .I) (mapWord g a s) ≡ false
+words-pass g a = some-elim (g .E) (λ s. badWord (g .I) (mapWord g a s))
+
 pub opens-judged : (a : List ℕ) → Opens a → Small a → Judged (layoutIn a) a
 opens-judged a o small = let g = layoutIn a in
     let p = or-false (twoPending g a) _ (o .settled) in
     record {
       ok = described-layout a (o .info);
       arena = described-arena a (o .info) small;
-      lanes = every-elim (g .N) (laneReadable g a) (not-false _ (o .lanes));
-      words = some-elim (g .E) (λ s. badWord (g .I) (mapWord g a s)) (o .words);
+      lanes = lanes-pass g a (o .lanes);
+      words = words-pass g a (o .words);
       apart = p .0;
       once = not-false _ (p .1);
     }

@@ -1,4 +1,5 @@
--- Each test of opening says whether its condition in the table holds.
+-- The tests of opening's rules against the conditions in words: each is true exactly where its condition holds. Of rule 2, the block that
+-- counts has bytes exactly where one of the two is sound, and is then sound itself.
 use mathlib.Core.Path.{_≡_, refl, ap, _∙_}
 use mathlib.Core.List.{List, [], _∷_}
 use mathlib.Core.Bool.{Bool, true, false, not}
@@ -12,7 +13,7 @@ use Rattle.layout.specs.Figures.{lengthAllowed, figuresAllowed}
 use Rattle.layout.specs.Place.{Layout}
 use Rattle.format.specs.MapWord.{flagsOf, lowBits, badWord}
 use Rattle.infoblock.specs.Info.{sound, infoBlockOf, headerAllowed, infoAllowed, figuresOf}
-use Rattle.format.proofs.Tests.{and-elim, all-elim}
+use Rattle.format.proofs.Tests.{by-bool, and-elim, all-elim}
 use Rattle.format.proofs.Below.{below-take, below-drop}
 use Rattle.layout.proofs.Allowed.{allowed-of, of-allowed}
 use Rattle.infoblock.proofs.InfoBlock.{
@@ -80,12 +81,26 @@ ok-bad blocks w b = rw (ne-eqb (flagsOf w) 0 (b .0), le-leb _ _ (b .1))
 
 -- ---- rule 2
 
-module _ (a : List ℕ) (small : Small a) (h : lengthAllowed (length a) ≡ true) where
+unsound : (b : List ℕ) → Small b → (Sound b → ⊥) → sound b ≡ false
+unsound b small n = by-bool (sound b) _ (λ e. absurd (n (sound-ok b small e))) (λ e. e)
+
+module _ (a : List ℕ) (small : Small a) where
   main-small : Small (take 4096 a)
   main-small = below-take 256 4096 a (omega arith) small
 
   copy-small : Small (drop (length a - 4096) a)
   copy-small = below-drop 256 (length a - 4096) a small
+
+  pub main-unsound : (Sound (take 4096 a) → ⊥) → sound (take 4096 a) ≡ false
+  main-unsound = unsound (take 4096 a) main-small
+
+  copy-unsound : (Sound (drop (length a - 4096) a) → ⊥) → sound (drop (length a - 4096) a) ≡ false
+  copy-unsound = unsound (drop (length a - 4096) a) copy-small
+
+module _ (a : List ℕ) (small : Small a) (h : lengthAllowed (length a) ≡ true) where
+  -- where neither block is sound, none counts
+  pub none-counts : (Sound (take 4096 a) → ⊥) → (Sound (drop (length a - 4096) a) → ⊥) → infoBlockOf a ≡ []
+  none-counts x y = info-in a h ∙ counting-none _ _ (main-unsound a small x) (copy-unsound a small y)
 
   -- the block that counts has bytes exactly if one of the two is sound
   pub none-sound : eqb (length (infoBlockOf a)) 0 ≡ true → (Sound (take 4096 a) → ⊥) × (Sound (drop (length a - 4096) a) → ⊥)
@@ -98,22 +113,17 @@ module _ (a : List ℕ) (small : Small a) (h : lengthAllowed (length a) ≡ true
       main s = no (take 4096 a) (info-in a h ∙ counting-main _ _ (ok-sound _ s)) s
 
       copy : Sound (drop (length a - 4096) a) → (t : Bool) → sound (take 4096 a) ≡ t → ⊥
-      copy s true p = main (sound-ok _ main-small p)
+      copy s true p = main (sound-ok _ (main-small a small) p)
       copy s false p = no (drop (length a - 4096) a) (info-in a h ∙ counting-copy _ _ p (ok-sound _ s)) s
 
   pub some-sound : (Sound (take 4096 a) → ⊥) → (Sound (drop (length a - 4096) a) → ⊥) → eqb (length (infoBlockOf a)) 0 ≡ true
-  some-sound x y = go (sound (take 4096 a)) refl (sound (drop (length a - 4096) a)) refl
-    where
-      go : (t : Bool) → sound (take 4096 a) ≡ t → (u : Bool) → sound (drop (length a - 4096) a) ≡ u → eqb (length (infoBlockOf a)) 0 ≡ true
-      go true p u q = absurd (x (sound-ok _ main-small p))
-      go false p true q = absurd (y (sound-ok _ copy-small q))
-      go false p false q = rw (info-in a h, counting-none _ _ p q)
+  some-sound x y = rw (none-counts x y)
 
   -- and is then sound itself
   pub counts-sound : eqb (length (infoBlockOf a)) 0 ≡ false → Sound (infoBlockOf a)
   counts-sound e = go (sound (take 4096 a)) refl (sound (drop (length a - 4096) a)) refl
     where
       go : (t : Bool) → sound (take 4096 a) ≡ t → (u : Bool) → sound (drop (length a - 4096) a) ≡ u → Sound (infoBlockOf a)
-      go true p u q = rw (info-in a h, counting-main _ (drop (length a - 4096) a) p) (sound-ok _ main-small p)
-      go false p true q = rw (info-in a h, counting-copy _ _ p q) (sound-ok _ copy-small q)
+      go true p u q = rw (info-in a h, counting-main _ (drop (length a - 4096) a) p) (sound-ok _ (main-small a small) p)
+      go false p true q = rw (info-in a h, counting-copy _ _ p q) (sound-ok _ (copy-small a small) q)
       go false p false q = absurd (eqb-false (length (infoBlockOf a)) 0 e (rw (info-in a h, counting-none _ _ p q)))

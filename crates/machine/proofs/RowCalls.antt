@@ -16,9 +16,10 @@ use Rattle.machine.specs.declared.handle.Handle.{Handle}
 use Rattle.machine.specs.Lane.{writeStores}
 use Rattle.machine.specs.Valid.{Small}
 use Rattle.machine.specs.Writing.{Outcome, startNumber, startOf, stepNumber, stepOf, stepsOf, writeNumber, writeOf}
-use Rattle.machine.specs.History.{start, step, write}
+use Rattle.machine.specs.History.{start, step, write, State, after}
 use Rattle.machine.specs.Row.{holds, Flight, idle, flying, Row, put, rowNumber, rowAfter, SameFlight}
-use Rattle.machine.proofs.Calls.{lanes-in, start-found, step-found, write-found, good-start, good-step, start-shape, steps-shape}
+use Rattle.machine.proofs.Calls.{lanes-in, start-found, step-found, write-found, good-start, good-step}
+use Rattle.machine.proofs.Histories.{steps-alike, alike-after}
 use Rattle.machine.proofs.RowState.{Rep, rep-same}
 use Rattle.machine.proofs.RowAnswers.{start-number, step-number, write-number}
 use Rattle.machine.proofs.RowSteps.{last-store, started, step-any}
@@ -90,7 +91,9 @@ module _ (row : Row) (a : List ℕ) (h : Handle) (k : Rep row a h) (l s : ℕ) (
   found = write-found a h l s buffer e
 
   figures-kept : (n : ℕ) → (stepsMade n) .handle .figures ≡ h .figures
-  figures-kept n = steps-shape n ((startOf a h l s) .arena) ((startOf a h l s) .handle) l buffer .figures ∙ start-shape a h l s .figures
+  figures-kept n =
+      let x : State = record { arena = a; handle = h } in
+      steps-alike n (after x (start l s)) l buffer .figures ∙ alike-after x (start l s) .figures
 
   lane-in : (n : ℕ) → l < (stepsMade n) .handle .figures .lanes
   lane-in n = rw (figures-kept n) (start-found a h l s (found .0) .0)

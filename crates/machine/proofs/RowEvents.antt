@@ -1,20 +1,18 @@
--- Every event, a call or an opening, answers as the row does and leaves what the row leaves.
+-- Every event, a call or an opening, answers as the row does and leaves what the row leaves. An opening is refused only for want of room,
+-- and else leaves every lane idle and the sectors as the row has them.
 use mathlib.Core.Path.{_≡_, sym, ap, _∙_}
 use mathlib.Core.List.{List, [], _++_}
 use mathlib.Core.Bool.{true, false, cond}
-use Prim.Native.Nat.{ℕ, _-_, _≤_, _<_}
+use Prim.Native.Nat.{ℕ, _≤_}
 use native.Mathlib.Omega.{arith}
 use lib.Dec.{eqb, ltb}
 use lib.ListN.{length, drop, replicate}
 use borrow.Author.Tests.{ltb-false}
 use Rattle.format.proofs.Tests.{true-false, by-bool}
-use Rattle.layout.specs.Figures.{maxLanes}
 use Rattle.layout.specs.Place.{layoutOf}
 use Rattle.layout.specs.declared.Figures.{Figures}
 use Rattle.machine.specs.declared.lane.Lane.{Lane}
-use Rattle.machine.specs.Lane.{noLane}
-use Rattle.machine.specs.Handle.{laneAt}
-use Rattle.machine.specs.Opening.{layoutIn, openOf, workAfter, handleFor}
+use Rattle.machine.specs.Opening.{openOf, workAfter}
 use Rattle.machine.specs.Writing.{startOf, stepOf, writeOf}
 use Rattle.machine.specs.History.{
   Call,
@@ -36,8 +34,7 @@ use Rattle.machine.specs.History.{
   SmallEvent,
 }
 use Rattle.machine.specs.Row.{idle, Row, rowNumber, rowReply, rowAfter, lacking, reopened, rowAfterEvent, rowReplyEvent, SameBuffer}
-use Rattle.machine.proofs.Lanes.{found-at}
-use Rattle.machine.proofs.Opens.{open-number}
+use Rattle.machine.proofs.Opens.{open-number, opened-idle}
 use Rattle.machine.proofs.Good.{good-opens, good-number, good-arena, good-count}
 use Rattle.machine.proofs.Calls.{held-open}
 use Rattle.machine.proofs.Histories.{held-small, alike-open}
@@ -54,13 +51,6 @@ RepIn row x = Rep row (x .arena) (x .handle)
 pub idle-as : (f : Figures) (a : List ℕ) (r : Lane) → r .busy ≡ false → LaneAs f a r idle
 idle-as f a r e = record { bytes = []; is = rw e; lent = λ b _. true-false (sym b ∙ e) }
 
--- every lane is idle after an accepted opening
-pub opened-idle : (a work : List ℕ) → (openOf a work) .number ≡ 0 → (l : ℕ) → l < (layoutOf ((openOf a work) .handle .figures)) .N
-    → (laneAt ((openOf a work) .handle .lanes) l) .busy ≡ false
-unfolding openOf handleFor
-opened-idle a work e = rw e
-    (λ l u. ap (λ (q : Lane). q .busy) (found-at (layoutIn a) a ((layoutIn a) .N) l (replicate (maxLanes - (layoutIn a) .N) noLane) u))
-
 module _ (row : Row) (x : State) (k : RepIn row x) (work : List ℕ) where
   open-answer : (openOf (x .arena) work) .number ≡ cond (ltb (length work) (x .handle .figures .blocks)) 5 0
   unfolding openOf layoutOf
@@ -70,7 +60,6 @@ module _ (row : Row) (x : State) (k : RepIn row x) (work : List ℕ) where
 
   module _ (room : x .handle .figures .blocks ≤ length work) where
     pub accepted : (openOf (x .arena) work) .number ≡ 0
-    unfolding openOf
     accepted = good-number (x .arena) (x .handle .figures) (x .handle .lanes) (k .held .good) work room
 
     reopened-rep : RepIn (reopened (x .handle .figures) row) (openedState (openOf (x .arena) work))

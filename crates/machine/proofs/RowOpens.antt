@@ -2,8 +2,8 @@
 -- makes the new block of its lane, which is filled, the sector's. Data words are left alone.
 use mathlib.Core.Path.{_≡_, refl, sym, ap₂, _∙_}
 use mathlib.Core.Logic.{_≢_}
-use mathlib.Core.List.{List, [], _∷_, append-nil}
-use mathlib.Core.Bool.{Bool, true, false, cond}
+use mathlib.Core.List.{List}
+use mathlib.Core.Bool.{true, cond}
 use Prim.Native.Nat.{ℕ, zero, suc, _+_, _≤_, _<_}
 use native.Mathlib.Omega.{arith}
 use native.Mathlib.Decide.{ℕ-discrete}
@@ -11,52 +11,37 @@ use lib.ListN.{length, length-append}
 use borrow.Author.Tests.{eq-eqb, ne-eqb}
 use Rattle.words.specs.Word.{word}
 use Rattle.format.specs.MapWord.{mappedTo}
-use Rattle.format.proofs.Tests.{by-bool}
+use Rattle.format.proofs.Tests.{true-false, by-bool}
 use Rattle.layout.specs.Place.{Layout, layoutOf, inData, inMap, at}
 use Rattle.machine.specs.declared.lane.Lane.{Lane}
 use Rattle.machine.specs.declared.handle.Handle.{Handle}
 use Rattle.machine.specs.Handle.{laneAt}
-use Rattle.machine.specs.Stores.{stored, putAll}
+use Rattle.machine.specs.Stores.{putAll}
 use Rattle.machine.specs.Flog.{mapWord}
 use Rattle.machine.specs.Row.{Sector, holds, Row, put, lacksLast, finished, settled, lacking}
-use Rattle.machine.proofs.Stores.{elsewhere, stored-word, putAll-one}
+use Rattle.machine.proofs.Members.{one-length}
+use Rattle.machine.proofs.Stores.{elsewhere, stored-word}
 use Rattle.machine.proofs.MapStores.{map-fits}
 use Rattle.machine.proofs.Inv.{Inv}
 use Rattle.machine.proofs.Finish.{finalStore}
-use Rattle.machine.proofs.Found.{ended, ended-true, finals, busy-after}
+use Rattle.machine.proofs.Found.{ended, ended-true, finals, finals-more, finals-same, busy-after, idle-ended}
 use Rattle.machine.proofs.Ends.{finishLanes, finish-inv}
 use Rattle.machine.proofs.Contents.{contentOf, content-kept, content-mapped}
-use Rattle.machine.proofs.RowState.{Lent, Rep, held-whole}
+use Rattle.machine.proofs.Calls.{held-whole}
+use Rattle.machine.proofs.RowState.{Lent, Rep}
 use Rattle.machine.proofs.RowSteps.{last-store}
 
--- ---- the stores of an opening
-
-module _ (g : Layout) (lanes : List Lane) where
-  finals-more : (a : List ℕ) (n : ℕ) → ended g (laneAt lanes n) ≡ true
-      → putAll g (finals g lanes (suc n)) a ≡ stored g (finalStore (laneAt lanes n)) (putAll g (finals g lanes n) a)
-  unfolding finals
-  finals-more a n e = rw e (putAll-one g (finals g lanes n) (finalStore (laneAt lanes n)) a)
-
-  finals-same : (n : ℕ) → ended g (laneAt lanes n) ≡ false → finals g lanes (suc n) ≡ finals g lanes n
-  unfolding finals
-  finals-same n e = rw e (append-nil (finals g lanes n))
-
-  -- where none of the lanes below n lacks only its map word
-  pub finals-none : (n : ℕ) → ((l : ℕ) → l < n → ended g (laneAt lanes l) ≡ false) → finals g lanes n ≡ []
-  finals-none zero e = unfold finals in refl
-  finals-none (suc n) e = finals-same n (e n (omega arith)) ∙ finals-none n (λ l u. e l (omega arith))
-
-  -- a data word is in the map word of no lane
-  finals-data : (a : List ℕ) → Inv g a lanes → (b k : ℕ) → b < g .I → k < g .W → (n : ℕ) → n ≤ g .N
-      → word (putAll g (finals g lanes n) a) (at g (inData b k)) ≡ word a (at g (inData b k))
-  finals-data a i b k u v zero w = unfold finals putAll in refl
-  finals-data a i b k u v (suc n) w =
-      let ih = finals-data a i b k u v n (omega arith) in
-      by-bool (ended g (laneAt lanes n)) _
-      (λ t. rw (finals-more a n t)
-      (elsewhere g (i .ok) (putAll g (finals g lanes n) a) (inMap ((laneAt lanes n) .sector .0)) (inData b k) _ (i .lane n w .sector-in) (u, v)
-      (λ e. let z : _≡_ {A = ℕ} 0 1 = cc in omega arith) ∙ ih))
-      (λ t. rw (finals-same n t) ih)
+-- the stores of an opening are map words, and leave a data word
+finals-data : (g : Layout) (lanes : List Lane) (a : List ℕ) → Inv g a lanes → (b k : ℕ) → b < g .I → k < g .W → (n : ℕ) → n ≤ g .N
+    → word (putAll g (finals g lanes n) a) (at g (inData b k)) ≡ word a (at g (inData b k))
+finals-data g lanes a i b k u v zero w = unfold finals putAll in refl
+finals-data g lanes a i b k u v (suc n) w =
+    let ih = finals-data g lanes a i b k u v n (omega arith) in
+    by-bool (ended g (laneAt lanes n)) _
+    (λ t. rw (finals-more g lanes a n t)
+    (elsewhere g (i .ok) (putAll g (finals g lanes n) a) (inMap ((laneAt lanes n) .sector .0)) (inData b k) _ (i .lane n w .sector-in) (u, v)
+    (λ e. true-false (cc)) ∙ ih))
+    (λ t. rw (finals-same g lanes n t) ih)
 
 -- ---- against the row
 
@@ -67,32 +52,24 @@ module _ (row : Row) (a : List ℕ) (h : Handle) (k : Rep row a h) where
   i : Inv g a (h .lanes)
   i = k .held .good .inv
 
-  -- an idle lane has made no store
-  pub not-ended : (l : ℕ) → l < g .N → (laneAt (h .lanes) l) .busy ≡ false → ended g (laneAt (h .lanes) l) ≡ false
-  not-ended l u e = ne-eqb ((laneAt (h .lanes) l) .made) (g .W + 4) (λ d. omega (arith, i .lane l u .still e))
-
   -- the row's test and the record's
   lacks-is : (l : ℕ) → l < g .N → lacksLast (h .figures) (row .lane l) ≡ ended g (laneAt (h .lanes) l)
   lacks-is l u = rw (k .lane l u .is) (by-bool ((laneAt (h .lanes) l) .busy) _
       (λ t. rw t (last-store (h .figures) ((laneAt (h .lanes) l) .made)))
-      (λ t. rw t (sym (not-ended l u t))))
+      (λ t. rw t (sym (idle-ended g a l (laneAt (h .lanes) l) (i .lane l u) t))))
 
   finished-is : (sectors : ℕ → Sector) (l : ℕ) (u : l < g .N) → finished (h .figures) sectors (row .lane l)
       ≡ cond (ended g (laneAt (h .lanes) l)) (put sectors ((laneAt (h .lanes) l) .sector .0) (holds (k .lane l u .bytes))) sectors
   finished-is sectors l u = rw (k .lane l u .is) (by-bool ((laneAt (h .lanes) l) .busy) _
       (λ t. rw (t, last-store (h .figures) ((laneAt (h .lanes) l) .made)))
-      (λ t. rw (t, not-ended l u t)))
+      (λ t. rw (t, idle-ended g a l (laneAt (h .lanes) l) (i .lane l u) t)))
 
   -- how many writes are finished
   pub lacking-is : (n : ℕ) → n ≤ g .N → lacking (h .figures) row n ≡ length (finals g (h .lanes) n)
   unfolding lacking finals
   lacking-is zero u = refl
   lacking-is (suc n) u = rw (lacks-is n u, length-append (finals g (h .lanes) n))
-      (ap₂ (λ x y. x + y) (lacking-is n (omega arith)) (one (ended g (laneAt (h .lanes) n))))
-    where
-      one : (t : Bool) → cond t 1 0 ≡ length (cond t (finalStore (laneAt (h .lanes) n) ∷ []) [])
-      one true = refl
-      one false = refl
+      (ap₂ (λ x y. x + y) (lacking-is n (omega arith)) (sym (one-length (finalStore (laneAt (h .lanes) n)) (ended g (laneAt (h .lanes) n)))))
 
   -- the arena with the writes of the lanes below n ended
   abbrev endedIn : ℕ → List ℕ

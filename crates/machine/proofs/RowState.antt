@@ -3,18 +3,15 @@
 use mathlib.Core.Path.{_≡_, _∙_}
 use mathlib.Core.List.{List}
 use mathlib.Core.Bool.{true, cond}
-use Prim.Native.Nat.{ℕ, _*_, _<_}
-use native.Mathlib.Omega.{arith}
+use Prim.Native.Nat.{ℕ, _<_}
 use lib.ListN.{length}
 use Rattle.layout.specs.Place.{layoutOf}
 use Rattle.layout.specs.declared.Figures.{Figures}
-use Rattle.layout.proofs.Allowed.{allowed-of, size-words}
 use Rattle.machine.specs.declared.lane.Lane.{Lane}
 use Rattle.machine.specs.declared.handle.Handle.{Handle}
 use Rattle.machine.specs.Handle.{laneAt}
 use Rattle.machine.specs.Valid.{Small}
 use Rattle.machine.specs.Row.{Flight, idle, flying, Row}
-use Rattle.machine.proofs.Good.{good-figures}
 use Rattle.machine.proofs.Calls.{Held}
 use Rattle.machine.proofs.Contents.{contentOf, Filled}
 
@@ -46,10 +43,3 @@ rep-same row row′ a h el es k = record {
   lane = λ l u. let w = k .lane l u in record { bytes = w .bytes; is = el l u ∙ w .is; lent = w .lent };
   sector = λ s u. es s u ∙ k .sector s u;
 }
-
--- a sector is whole words
-pub held-whole : (a : List ℕ) (h : Handle) → Held a h → h .figures .size ≡ 4 * (layoutOf (h .figures)) .W
-unfolding layoutOf
-held-whole a h k =
-    let z = size-words (h .figures) (length a) (allowed-of (h .figures) (length a) (good-figures a (h .figures) (h .lanes) (k .good))) in
-    omega (arith, z .0)

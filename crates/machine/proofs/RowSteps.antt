@@ -13,7 +13,7 @@ use borrow.Author.Tests.{eq-eqb, ne-eqb}
 use Rattle.words.specs.Word.{word}
 use Rattle.words.proofs.Laws.{word-lt}
 use Rattle.format.proofs.Tests.{true-false}
-use Rattle.layout.specs.Place.{Layout, layoutOf, inData, inMap, inFlog, InRange, at}
+use Rattle.layout.specs.Place.{Layout, layoutOf, Place, inData, inMap, inFlog, InRange, at}
 use Rattle.layout.specs.declared.Figures.{Figures}
 use Rattle.machine.specs.declared.lane.Lane.{Lane}
 use Rattle.machine.specs.declared.handle.Handle.{Handle}
@@ -29,20 +29,17 @@ use Rattle.machine.proofs.Stores.{Fits, elsewhere, stored-word, stored-
 use Rattle.machine.proofs.Inv.{Inv, blockIn, lane-same, lane-other}
 use Rattle.machine.proofs.MapStores.{map-fits}
 use Rattle.machine.proofs.Finish.{finalStore}
+use Rattle.machine.proofs.Found.{last-next}
 use Rattle.machine.proofs.StoreKinds.{Kind, isData, isLog, isMap, kind}
 use Rattle.machine.proofs.Steps.{stored-more, stored-last}
-use Rattle.machine.proofs.Calls.{Held}
+use Rattle.machine.proofs.Calls.{Held, held-whole}
 use Rattle.machine.proofs.Contents.{contentOf, Filled, content-kept, content-mapped}
-use Rattle.machine.proofs.RowState.{LaneAs, Rep, held-whole}
+use Rattle.machine.proofs.RowState.{LaneAs, Rep}
 
 -- the last store of a write, in the row's words and in the layout's
 pub last-store : (f : Figures) (n : ℕ) → eqb (n + 1) (storesOf f) ≡ eqb n ((layoutOf f) .W + 4)
 unfolding layoutOf
-last-store f n = go (ℕ-discrete n (f .size / 4 + 4))
-  where
-    go : Dec (n ≡ f .size / 4 + 4) → eqb (n + 1) (f .size / 4 + 5) ≡ eqb n (f .size / 4 + 4)
-    go (yes e) = eq-eqb (n + 1) (f .size / 4 + 5) (omega arith) ∙ sym (eq-eqb n (f .size / 4 + 4) e)
-    go (no d) = ne-eqb (n + 1) (f .size / 4 + 5) (λ e. omega arith) ∙ sym (ne-eqb n (f .size / 4 + 4) d)
+last-store f n = last-next n (f .size / 4)
 
 -- a lane whose new block has not changed
 pub lane-as : (f : Figures) (a a′ : List ℕ) (r : Lane) (y : Flight)
@@ -86,6 +83,9 @@ module _ (row : Row) (a : List ℕ) (h : Handle) (k : Rep row a h) (l : ℕ) (u 
 
   -- an accepted step: the store st, the record q, and the lane and the sectors of the row after it
   module _ (st : Store) (range : InRange g (st .place)) where
+    same-word : (p : Place) → InRange g p → p ≢ st .place → word (stored g st a) (at g p) ≡ word a (at g p)
+    same-word p = elsewhere g (i .ok) a (st .place) p (st .value) range
+
     moved : (q : Lane) (y : Flight) (sectors : ℕ → Sector) → Held (stored g st a) (withLane h l q) → LaneAs (h .figures) (stored g st a) q y
         → ((j n : ℕ) → j < g .N → j ≢ l → inData ((laneAt (h .lanes) j) .block .0) n ≢ st .place)
         → ((s : ℕ) → s < g .E → sectors s ≡ contentOf (h .figures) (stored g st a) s)
@@ -94,8 +94,7 @@ module _ (row : Row) (a : List ℕ) (h : Handle) (k : Rep row a h) (l : ℕ) (u 
       held = d;
       lane = lanes-put (stored g st a) q y own
           (λ j v n. lane-as (h .figures) a (stored g st a) (laneAt (h .lanes) j) (row .lane j)
-          (λ m c. elsewhere g (i .ok) a (st .place) (inData ((laneAt (h .lanes) j) .block .0) m) (st .value) range (i .lane j v .block-in, c)
-          (away j m v n)) (k .lane j v));
+          (λ m c. same-word (inData ((laneAt (h .lanes) j) .block .0) m) (i .lane j v .block-in, c) (away j m v n)) (k .lane j v));
       sector = same;
     }
 
@@ -105,8 +104,7 @@ module _ (row : Row) (a : List ℕ) (h : Handle) (k : Rep row a h) (l : ℕ) (u 
     kept s v nm nd =
         k .sector s v
         ∙ sym (content-kept (h .figures) (i .ok) (held-whole a h (k .held)) a (stored g st a) (i .arena) (stored-arena g (i .ok) a st (i .arena)) s
-        (i .map-in s v) (elsewhere g (i .ok) a (st .place) (inMap s) (st .value) range v nm)
-        (λ n c. elsewhere g (i .ok) a (st .place) (inData (mapBlock g a s) n) (st .value) range (i .map-in s v, c) (nd n)))
+        (i .map-in s v) (same-word (inMap s) v nm) (λ n c. same-word (inData (mapBlock g a s) n) (i .map-in s v, c) (nd n)))
 
     -- the words of the lane's new block: the first m, where the store is not, and those from m on
     filled : (buffer : List ℕ) (m n : ℕ) → Filled g a (r .block .0) buffer m
@@ -115,7 +113,7 @@ module _ (row : Row) (a : List ℕ) (h : Handle) (k : Rep row a h) (l : ℕ) (u 
     filled buffer m n old new away x c d = go (decLt x m)
       where
         go : Dec (x < m) → word (stored g st a) (at g (inData (r .block .0) x)) ≡ word buffer x
-        go (yes e) = elsewhere g (i .ok) a (st .place) (inData (r .block .0) x) (st .value) range (i .lane l u .block-in, d) (away x e) ∙ old x e d
+        go (yes e) = same-word (inData (r .block .0) x) (i .lane l u .block-in, d) (away x e) ∙ old x e d
         go (no e) = new x (omega arith) c d
 
   -- ---- the stores of an accepted step
@@ -146,7 +144,7 @@ module _ (row : Row) (a : List ℕ) (h : Handle) (k : Rep row a h) (l : ℕ) (u 
     data-step c d =
         moved st (fits .range) _ _ (row .sector) d
         (more _ (filled st (fits .range) buffer (r .made) (r .made + 1) so-far here (λ x v e. omega (arith, word-no e)))) others
-        (λ s v. kept st (fits .range) s v (λ e. let z : _≡_ {A = ℕ} 0 1 = cc in omega arith) (λ n e. unmapped s v (block-no e)))
+        (λ s v. kept st (fits .range) s v (λ e. true-false (cc)) (λ n e. unmapped s v (block-no e)))
       where
         st : Store
         st = record { place = inData (r .block .0) (r .made); value = word buffer (r .made) }
@@ -174,7 +172,7 @@ module _ (row : Row) (a : List ℕ) (h : Handle) (k : Rep row a h) (l : ℕ) (u 
     log-step j v c m d =
         moved st range _ _ (row .sector) d
         (more _ (filled st range buffer _ _ so-far (λ x p q w. absurd (omega arith)) (λ x _. no-block _ x))) (λ x n _ _. no-block _ n)
-        (λ s w. kept st range s w (λ e. let z : _≡_ {A = ℕ} 0 1 = cc in omega arith) (no-block _))
+        (λ s w. kept st range s w (λ e. true-false (cc)) (no-block _))
       where
         st : Store
         st = record { place = inFlog l (r .half) j; value = v }
@@ -183,7 +181,7 @@ module _ (row : Row) (a : List ℕ) (h : Handle) (k : Rep row a h) (l : ℕ) (u 
         range = (u, i .lane l u .half-in, c)
 
         no-block : (x y : ℕ) → inData x y ≢ inFlog l (r .half) j
-        no-block x y e = let z : _≡_ {A = ℕ} 0 1 = cc in omega arith
+        no-block x y e = true-false (cc)
 
     -- the last store: the sector holds the buffer, and the lane is idle
     abbrev Landed : Row
@@ -204,7 +202,7 @@ module _ (row : Row) (a : List ℕ) (h : Handle) (k : Rep row a h) (l : ℕ) (u 
         fits = map-fits g (i .ok) a (i .arena) _ _ (i .lane l u .sector-in) (i .lane l u .block-in)
 
         no-block : (x y : ℕ) → inData x y ≢ inMap (r .sector .0)
-        no-block x y e = let z : _≡_ {A = ℕ} 0 1 = cc in omega arith
+        no-block x y e = true-false (cc)
 
         content : (t : ℕ) → t < g .E → Dec (t ≡ r .sector .0)
             → put (row .sector) (r .sector .0) (holds buffer) t ≡ contentOf (h .figures) (stored g (finalStore r) a) t

@@ -3,17 +3,16 @@
 use mathlib.Core.Path.{_≡_, sym, ap, _∙_}
 use mathlib.Core.Bool.{Bool, true, false, and-true}
 use mathlib.Core.List.{List, map}
-use Prim.Native.Nat.{ℕ, _+_, _/_, _≤_, _<_}
+use Prim.Native.Nat.{ℕ, _≤_, _<_}
 use native.Mathlib.Nat.{le-antisymm}
 use lib.ListN.{length, length-map}
 use lib.Dec.{ltb}
 use borrow.Author.Tests.{lt-ltb, le-leb, eq-eqb, ne-eqb}
 use Rattle.format.specs.Tests.{every}
 use Rattle.layout.specs.Figures.{lengthAllowed, figuresAllowed}
-use Rattle.layout.specs.Place.{layoutOf}
-use Rattle.layout.specs.declared.Figures.{Figures}
+use Rattle.layout.specs.Place.{Layout, layoutOf}
 use Rattle.machine.specs.declared.lane.Lane.{Lane}
-use Rattle.machine.specs.Lane.{laneAllowed}
+use Rattle.machine.specs.Lane.{writeStores, laneAllowed}
 use Rattle.machine.specs.declared.handle.Handle.{Handle}
 use Rattle.machine.specs.Handle.{laneAt, handleAllowed}
 
@@ -25,11 +24,11 @@ pub every-end : (i n : ℕ) (t : ℕ → Bool) → i ≤ n → n ≤ i → every
 every-end i n t p q e = sym e ∙ ap (λ (m : ℕ). every m t) (le-antisymm p q)
 
 -- where the other tests of a record pass, the last one is the judgement
-pub lane-last : (f : Figures) (r : Lane) → r .block .0 < f .blocks → r .old .0 < f .blocks → r .half < 2 → 1 ≤ r .sequence .0
-    → r .sequence .0 ≤ 3 → r .sector .0 < f .sectors → ltb (r .made) (f .size / 4 + 5) ≡ laneAllowed (layoutOf f) r
-unfolding laneAllowed layoutOf
-lane-last f r b o h s t e =
-    rw (lt-ltb _ _ b, lt-ltb _ _ o, lt-ltb _ _ h, le-leb _ _ s, le-leb _ _ t, lt-ltb _ _ e) (sym (and-true (ltb (r .made) (f .size / 4 + 5))))
+pub lane-last : (g : Layout) (r : Lane) → r .block .0 < g .I → r .old .0 < g .I → r .half < 2 → 1 ≤ r .sequence .0
+    → r .sequence .0 ≤ 3 → r .sector .0 < g .E → ltb (r .made) (writeStores g) ≡ laneAllowed g r
+unfolding laneAllowed
+lane-last g r b o h s t e =
+    rw (lt-ltb _ _ b, lt-ltb _ _ o, lt-ltb _ _ h, le-leb _ _ s, le-leb _ _ t, lt-ltb _ _ e) (sym (and-true (ltb (r .made) (writeStores g))))
 
 -- what rule 16 gives, outcome by outcome
 module _ (h : Handle) (n : ℕ) where

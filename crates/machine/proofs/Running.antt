@@ -29,6 +29,7 @@ use Rattle.machine.specs.Writing.{inFlight, startNumber, startOf, stepNu
 use Rattle.machine.specs.Running.{LaneOk, HandleOk, InFlight, readRow, startRow, stepRow, writeRow}
 use Rattle.machine.specs.RunningClaim.{AsTheyCame, RunningClaim}
 use Rattle.machine.proofs.Rows.{Reflects, rule, end, asks, first-of}
+use Rattle.machine.proofs.Rule16.{lane-last, handle-last}
 use Rattle.machine.proofs.Reflect.{length-ok, ok-length, bad-ok, ok-bad}
 
 -- ---- rule 16
@@ -58,18 +59,9 @@ lane-ok g r e =
     }
 
 pub ok-lane : (g : Layout) (r : Lane) → LaneOk g r → laneAllowed g r ≡ true
-unfolding laneAllowed
 ok-lane g r k =
     let two : r .half < 2 = ⊎-elim (λ e. omega arith) (λ e. omega arith) (k .half) in
-    rw (
-      lt-ltb _ _ (k .block),
-      lt-ltb _ _ (k .old),
-      lt-ltb _ _ two,
-      le-leb _ _ (k .sequence-least),
-      le-leb _ _ (k .sequence-most),
-      lt-ltb _ _ (k .sector),
-      lt-ltb _ _ (k .made),
-    )
+    sym (lane-last g r (k .block) (k .old) two (k .sequence-least) (k .sequence-most) (k .sector)) ∙ lt-ltb (r .made) (writeStores g) (k .made)
 
 module _ (h : Handle) (n : ℕ) where
   lane-test : ℕ → Bool
@@ -89,10 +81,10 @@ module _ (h : Handle) (n : ℕ) where
       }
 
   pub ok-handle : HandleOk h n → handleAllowed h n ≡ true
-  unfolding handleAllowed lane-test
+  unfolding lane-test
   ok-handle k =
-      rw (ok-length n (k .size), eq-eqb _ _ (k .match), of-allowed (h .figures) n (k .figures))
-      (every-intro (h .figures .lanes) lane-test (λ l u. ok-lane _ _ (k .lanes l u)))
+      sym (handle-last h n (ok-length n (k .size)) (k .match) (of-allowed (h .figures) n (k .figures)))
+      ∙ every-intro (h .figures .lanes) lane-test (λ l u. ok-lane _ _ (k .lanes l u))
 
 -- ---- rules 13 and 15
 

@@ -11,13 +11,13 @@ use lib.Dec.{eqb}
 use borrow.Author.Tests.{eq-eqb, lt-ltb, le-ltb, not-false}
 use Rattle.layout.specs.Place.{Layout, LayoutOk}
 use Rattle.format.proofs.Tests.{or-false}
-use Rattle.machine.specs.Flog.{mapBlock, logged, freeOf, pending}
+use Rattle.machine.specs.Flog.{mapBlock, freeOf, pending}
 use Rattle.machine.specs.Opening.{laneReadable, mended, twoPending, count, eachOnce}
 use Rattle.machine.specs.Valid.{Pending, blockAt, EachOnce, Settled}
 use Rattle.machine.proofs.Once.{at-most-one, hit, hit-eq, count-suc, count-pos, count-one, count-where, Once, once-of, of-once}
 use Rattle.machine.proofs.Stores.{Arena}
 use Rattle.machine.proofs.Mends.{readable-of, pending-old, mends-in}
-use Rattle.machine.proofs.Spare.{two-none, none-two}
+use Rattle.machine.proofs.Spare.{two-apart, none-two}
 
 -- a value that stands at one index at most counts at most once
 count-unique : (n : ℕ) (f : ℕ → ℕ) (b : ℕ) → ((i j : ℕ) → i < n → j < n → f i ≡ b → f j ≡ b → i ≡ j) → count n f b ≤ 1
@@ -104,7 +104,8 @@ module _ (g : Layout) (m f : ℕ → ℕ) where
       both x y =
           let v = count-where (g .E) m b x in
           let w = count-where (g .N) f b y in
-          let e = o .once (v .0) (g .E + w .0) (omega (arith, v .1)) (omega (arith, w .1)) (at-map (v .0) (v .1) ∙ v .2 ∙ sym (w .2) ∙ sym (at-free (w .0))) in
+          let e = o .once (v .0) (g .E + w .0) (omega (arith, v .1)) (omega (arith, w .1))
+          (at-map (v .0) (v .1) ∙ v .2 ∙ sym (w .2) ∙ sym (at-free (w .0))) in
           omega (arith, v .1)
 
       go : Dec (0 < count (g .E) m b) → Dec (0 < count (g .N) f b) → count (g .E) m b + count (g .N) f b ≡ 1
@@ -125,17 +126,13 @@ module _ (g : Layout) (ok : LayoutOk g) (a : List ℕ) (r : Arena g a) (f : (l :
   settled-of e =
       let p = or-false (twoPending g a) _ e in
       record {
-        apart = λ l j u v n x y. apart (p .0) l j u v n (of-pending g a l x) (of-pending g a j y) (decLt j l);
+        apart = λ l j u v n x y. two-apart g a (p .0) l j u v n (of-pending g a l x) (of-pending g a j y);
         once = each-once g (mapBlock g (mended g a)) (freeOf g a) (mends-in g ok a r f (g .N) (omega arith) w)
             (λ l u. readable-of g a l (f l u) .old) (once-of g _ _ (not-false _ (p .1)));
       }
-    where
-      apart : twoPending g a ≡ false → (l j : ℕ) → l < g .N → j < g .N → l ≢ j → pending g a l ≡ true → pending g a j ≡ true
-          → Dec (j < l) → logged g a l 0 ≢ logged g a j 0
-      apart t l j u v n x y (yes d) z = two-none g a t l j u d x y z
-      apart t l j u v n x y (no d) z = two-none g a t j l v (omega arith) y x (sym z)
 
   pub of-settled : Settled g a → twoPending g a || not (eachOnce g (mapBlock g (mended g a)) (freeOf g a)) ≡ false
   of-settled s =
-      let t : twoPending g a ≡ false = none-two g a (λ l j u v p q. s .apart l j u (omega arith) (λ d. omega arith) (pending-old g a l p) (pending-old g a j q)) in
+      let t : twoPending g a ≡ false = none-two g a
+      (λ l j u v p q. s .apart l j u (omega arith) (λ d. omega arith) (pending-old g a l p) (pending-old g a j q)) in
       rw (t, of-once g _ _ (once-each g _ _ (s .once)))

@@ -11,29 +11,35 @@ use Rattle.format.specs.MapWord.{badWord}
 use Rattle.format.proofs.Tests.{by-bool, and-elim}
 use Rattle.machine.specs.Lane.{writeStores}
 use Rattle.machine.specs.Handle.{laneAt}
-use Rattle.machine.specs.Stores.{putAll}
 use Rattle.machine.specs.Flog.{mapWord}
 use Rattle.machine.specs.Opening.{figuresIn, layoutIn, handleFor}
 use Rattle.machine.specs.Reading.{Read, readOf}
 use Rattle.machine.specs.Writing.{startNumber, startOf, stepNumber, stepOf, writeNumber, writeOf, inFlight}
 use Rattle.machine.specs.Row.{rowRead, rowNumber}
 use Rattle.machine.specs.History.{Call, read, start, step, write, State, justNumber, reply}
-use Rattle.machine.specs.Book.{Entry, inFlightYet, laneFlies, sectorFlies, bookNumber, kept, bytesOf, sectorDone, bookRead, bookReply}
+use Rattle.machine.specs.Book.{Entry, inFlightYet, laneFlies, sectorFlies, bookNumber, bytesOf, sectorDone, bookRead, bookReply}
 use Rattle.machine.specs.DemandThree.{Differ}
 use Rattle.machine.proofs.Calls.{held-allowed, held-word, lanes-in, lanes-out}
 use Rattle.machine.proofs.Histories.{HeldIn}
 use Rattle.machine.proofs.Entries.{any-some, any-false}
 use Rattle.machine.proofs.FirstArena.{First, first-word}
-use Rattle.machine.proofs.BookStores.{BookOk}
+use Rattle.machine.proofs.BookStores.{booked, BookOk}
 use Rattle.machine.proofs.BookLanes.{LaneOf, busy-is, flight-is}
 use Rattle.machine.proofs.BookReads.{read-old, read-new}
 
 pub record Sim (a : List ℕ) (bytes : ℕ → List ℕ) (b : List Entry) (y : State) : Type 0 where
-  pub arena : y .arena ≡ putAll (layoutIn a) (kept a bytes b) a
+  pub arena : y .arena ≡ booked a bytes b
   pub figures : y .handle .figures ≡ figuresIn a
   pub lanes : (l : ℕ) → l < (layoutIn a) .N → LaneOf a b l (laneAt (y .handle .lanes) l)
   pub ok : BookOk a bytes b
   pub held : HeldIn y
+
+-- a call that is no read
+abbrev pub Writes : Call → Type 0
+Writes (read s buffer) = ⊥
+Writes (start l s) = Unit {0}
+Writes (step l buffer) = Unit {0}
+Writes (write l s buffer) = Unit {0}
 
 -- the bytes of the write to a sector
 bytes-of : (a : List ℕ) (bytes : ℕ → List ℕ) (b : List Entry) → Differ b → (e : Entry) → List·Memᴰ e b → inFlightYet a e ≡ false → (buffer : List ℕ)
@@ -77,6 +83,13 @@ module _ (a : List ℕ) (bytes : ℕ → List ℕ) (x : First a) (b : List Entry
       (λ t. rw (t, flies l (leb-false _ _ t), flights s) (by-bool (leb ((figuresIn a) .sectors) s) _ (λ v. rw v)
       (λ v. rw (v, allowed-words s (leb-false _ _ v))))))
 
+  -- the numbers of calls that are no reads
+  pub number-of : (c : Call) → Writes c → (reply y c) .number ≡ bookNumber a b c
+  number-of (read s buffer) w = absurd w
+  number-of (start l s) w = unfold startOf in (start-number l s)
+  number-of (step l buffer) w = unfold stepOf in (step-number l buffer)
+  number-of (write l s buffer) w = unfold writeOf in (write-number l s buffer)
+
   -- ---- reads
 
   read-is : (s : ℕ) (buffer : List ℕ) → readOf (y .arena) (y .handle) s buffer ≡ bookRead a bytes b s buffer
@@ -102,6 +115,6 @@ module _ (a : List ℕ) (bytes : ℕ → List ℕ) (x : First a) (b : List Entry
   pub reply-is : (c : Call) → reply y c ≡ bookReply a bytes b c
   unfolding bookReply
   reply-is (read s buffer) = ap (λ (r : Read). record { number = r .number; buffer = r .buffer; mended = 0 }) (read-is s buffer)
-  reply-is (start l s) = unfold startOf in (ap justNumber (start-number l s))
-  reply-is (step l buffer) = unfold stepOf in (ap justNumber (step-number l buffer))
-  reply-is (write l s buffer) = unfold writeOf in (ap justNumber (write-number l s buffer))
+  reply-is (start l s) = ap justNumber (number-of (start l s) tt)
+  reply-is (step l buffer) = ap justNumber (number-of (step l buffer) tt)
+  reply-is (write l s buffer) = ap justNumber (number-of (write l s buffer) tt)

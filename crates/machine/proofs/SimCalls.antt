@@ -39,12 +39,12 @@ use Rattle.machine.proofs.Inv.{lane-same, lane-other}
 use Rattle.machine.proofs.Calls.{start-found, step-found, write-found, lanes-in, sectors-in}
 use Rattle.machine.proofs.Running.{running-claim}
 use Rattle.machine.proofs.Histories.{held-after, alike-after}
-use Rattle.machine.proofs.Entries.{any-of, retally, oneMore, tallied-is, tallied-none}
+use Rattle.machine.proofs.Entries.{entryOf, Unused, any-of, retally, oneMore, tallied-is, tallied-none}
 use Rattle.machine.proofs.FirstArena.{First, AsFound}
 use Rattle.machine.proofs.BookStores.{storeOf, kept-map}
 use Rattle.machine.proofs.BookLanes.{lane-flying, lane-busy, lane-started, LaneOf, untouched, written}
-use Rattle.machine.proofs.NextBook.{newEntry, new-ok, new-other, more-other, more-ok, more-arena, more-lane}
-use Rattle.machine.proofs.Sim.{Sim, start-number, step-number, write-number}
+use Rattle.machine.proofs.NextBook.{new-ok, new-other, more-other, more-ok, more-arena, more-lane}
+use Rattle.machine.proofs.Sim.{Sim, start-number, step-number, write-number, number-of}
 
 -- a refused call changes nothing
 refused-after : (y : State) (c : Call) → (reply y c) .number ≢ 0 → after y c ≡ y
@@ -67,9 +67,9 @@ write-after y l s buffer n p e = rw (e, p)
 -- what an accepted call begins shares neither a lane nor a sector with the book's writes
 abbrev pub Fresh : List Entry → Call → Type 0
 Fresh b (read s buffer) = Unit {0}
-Fresh b (start l s) = (d : Entry) → List·Memᴰ d b → (d .lane ≢ l) × (d .sector ≢ s)
+Fresh b (start l s) = Unused b l s
 Fresh b (step l buffer) = Unit {0}
-Fresh b (write l s buffer) = (d : Entry) → List·Memᴰ d b → (d .lane ≢ l) × (d .sector ≢ s)
+Fresh b (write l s buffer) = Unused b l s
 
 -- ---- a start and a step
 
@@ -89,11 +89,11 @@ module _ (a : List ℕ) (bytes : ℕ → List ℕ) (x : First a) (b : List Entry
 
   -- an accepted start
   start-sim : (l s : ℕ) → startNumber (y .arena) (y .handle) l s ≡ 0 → Fresh b (start l s)
-      → Sim a bytes (newEntry l s ∷ b) (after y (start l s))
+      → Sim a bytes (entryOf l s 0 ∷ b) (after y (start l s))
   start-sim l s e f = record {
     arena = unfold kept firstStores startOf in (z .arena);
     figures = alike-after y (start l s) .figures ∙ z .figures;
-    lanes = λ j w. rw handed (with-lane (newEntry l s ∷ b) l r u own (new-other b l s a) j w);
+    lanes = λ j w. rw handed (with-lane (entryOf l s 0 ∷ b) l r u own (new-other b l s a) j w);
     ok = new-ok b l s a bytes (z .ok) u v f;
     held = held-after y (start l s) tt (z .held);
   }
@@ -114,8 +114,8 @@ module _ (a : List ℕ) (bytes : ℕ → List ℕ) (x : First a) (b : List Entry
       found (untouched q _) = q
       found (written d m p _) = absurd (f d m .0 p)
 
-      own : LaneOf a (newEntry l s ∷ b) l r
-      own = written (newEntry l s) (List·Memᴰ·head refl) refl
+      own : LaneOf a (entryOf l s 0 ∷ b) l r
+      own = written (entryOf l s 0) (List·Memᴰ·head refl) refl
           (rw (z .figures, z .arena, kept-map a bytes x b (z .ok) s v (λ d m p. absurd (f d m .1 p)))
           (lane-started a l s (laneAt (y .handle .lanes) l) (found (z .lanes l u))))
 
@@ -162,25 +162,21 @@ module _ (a : List ℕ) (bytes : ℕ → List ℕ) (x : First a) (b : List Entry
 -- ---- a whole write
 
 module _ (a : List ℕ) (bytes : ℕ → List ℕ) (x : First a) (b : List Entry) (l s : ℕ) (buffer : List ℕ) where
-  -- its entry with n stores made
-  abbrev with : ℕ → List Entry
-  with n = record { lane = l; sector = s; tally = n } ∷ b
-
   -- a step on its lane is accepted until all are made
   steps-next : (n : ℕ) → n < writeStores (layoutIn a) → l < (figuresIn a) .lanes → length buffer ≡ (figuresIn a) .size
-      → bookNumber a (record { lane = l; sector = s; tally = n } ∷ b) (step l buffer) ≡ 0
+      → bookNumber a (entryOf l s n ∷ b) (step l buffer) ≡ 0
   unfolding bookNumber
   steps-next n u v size = rw (
     lt-leb ((figuresIn a) .lanes) l v,
-    any-of (λ e. eqb (e .lane) l && inFlightYet a e) (with n) (record { lane = l; sector = s; tally = n }) (List·Memᴰ·head refl)
+    any-of (λ e. eqb (e .lane) l && inFlightYet a e) (entryOf l s n ∷ b) (entryOf l s n) (List·Memᴰ·head refl)
         (and-intro (eqb l l) (ltb n (writeStores (layoutIn a))) (eq-eqb l l refl) (lt-ltb n (writeStores (layoutIn a)) u)),
     eq-eqb (length buffer) ((figuresIn a) .size) size,
   )
 
   -- the first n steps
   steps-sim : (n : ℕ) (y : State) → n ≤ writeStores (layoutIn a) → l < (figuresIn a) .lanes → length buffer ≡ (figuresIn a) .size → Small buffer
-      → buffer ≡ bytes l → ((d : Entry) → List·Memᴰ d b → d .lane ≢ l) → Sim a bytes (newEntry l s ∷ b) y
-      → Sim a bytes (record { lane = l; sector = s; tally = n } ∷ b) (outcomeState (stepsOf n (y .arena) (y .handle) l buffer))
+      → buffer ≡ bytes l → ((d : Entry) → List·Memᴰ d b → d .lane ≢ l) → Sim a bytes (entryOf l s 0 ∷ b) y
+      → Sim a bytes (entryOf l s n ∷ b) (outcomeState (stepsOf n (y .arena) (y .handle) l buffer))
   unfolding stepsOf
   steps-sim zero y u v size small same f z = z
   steps-sim (suc n) y u v size small same f z = go (steps-sim n y (omega arith) v size small same f z)
@@ -188,17 +184,18 @@ module _ (a : List ℕ) (bytes : ℕ → List ℕ) (x : First a) (b : List Entry
       y′ : State
       y′ = outcomeState (stepsOf n (y .arena) (y .handle) l buffer)
 
-      grown : tallied a l (record { lane = l; sector = s; tally = n } ∷ b) ≡ record { lane = l; sector = s; tally = suc n } ∷ b
+      grown : tallied a l (entryOf l s n ∷ b) ≡ entryOf l s (suc n) ∷ b
       grown = unfold tallied in (rw (eq-eqb l l refl, add-one n, tallied-none a l b f))
 
-      go : Sim a bytes (record { lane = l; sector = s; tally = n } ∷ b) y′
-          → Sim a bytes (record { lane = l; sector = s; tally = suc n } ∷ b) (after y′ (step l buffer))
+      go : Sim a bytes (entryOf l s n ∷ b) y′
+          → Sim a bytes (entryOf l s (suc n) ∷ b) (after y′ (step l buffer))
       go w = rw grown at
-          (step-sim a bytes x (with n) y′ w l buffer (step-number a bytes x (with n) y′ w l buffer ∙ steps-next n (omega arith) v size) small same)
+          (step-sim a bytes x (entryOf l s n ∷ b) y′ w l buffer
+          (step-number a bytes x (entryOf l s n ∷ b) y′ w l buffer ∙ steps-next n (omega arith) v size) small same)
 
 module _ (a : List ℕ) (bytes : ℕ → List ℕ) (x : First a) (b : List Entry) (y : State) (z : Sim a bytes b y) where
   write-sim : (l s : ℕ) (buffer : List ℕ) → writeNumber (y .arena) (y .handle) l s buffer ≡ 0 → Small buffer → buffer ≡ bytes l
-      → Fresh b (write l s buffer) → Sim a bytes (record { lane = l; sector = s; tally = writeStores (layoutIn a) } ∷ b) (after y (write l s buffer))
+      → Fresh b (write l s buffer) → Sim a bytes (entryOf l s (writeStores (layoutIn a)) ∷ b) (after y (write l s buffer))
   write-sim l s buffer e small same f =
       let w = write-found (y .arena) (y .handle) l s buffer e in
       rw (write-after y l s buffer (writeStores (layoutIn a)) (rw (z .figures)) e)
@@ -217,9 +214,9 @@ module _ (a : List ℕ) (bytes : ℕ → List ℕ) (x : First a) (b : List Entry
 
   refused-book : (c : Call) → bookNumber a b c ≢ 0 → after y c ≡ y
   refused-book (read s buffer) n = refl
-  refused-book (start l s) n = refused-after y (start l s) (unfold startOf in (rw (start-number a bytes x b y z l s) n))
-  refused-book (step l buffer) n = refused-after y (step l buffer) (unfold stepOf in (rw (step-number a bytes x b y z l buffer) n))
-  refused-book (write l s buffer) n = refused-after y (write l s buffer) (unfold writeOf in (rw (write-number a bytes x b y z l s buffer) n))
+  refused-book (start l s) n = refused-after y (start l s) (rw (number-of a bytes x b y z (start l s) tt) n)
+  refused-book (step l buffer) n = refused-after y (step l buffer) (rw (number-of a bytes x b y z (step l buffer) tt) n)
+  refused-book (write l s buffer) n = refused-after y (write l s buffer) (rw (number-of a bytes x b y z (write l s buffer) tt) n)
 
   -- if what it begins is new to the book and it lends its write's bytes
   pub sim-next : (c : Call) → SmallCall c → (bookNumber a b c ≡ 0 → Fresh b c × lends bytes c) → Sim a bytes (bookNext a b c) (after y c)

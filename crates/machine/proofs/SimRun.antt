@@ -1,4 +1,5 @@
 -- A list of calls followed in the book: it begins with the empty book, every call answers as the book does and leaves what the book says.
+-- The writes that the list begins share no lane and no sector, so each is new to the book when its turn comes.
 use mathlib.Core.Path.{_≡_, refl, sym, ap, ap₂, _∙_, subst}
 use mathlib.Core.Logic.{_⊎_, inl, inr, ⊎-elim}
 use mathlib.Core.List.{
@@ -25,15 +26,14 @@ use Rattle.machine.specs.Lane.{writeStores}
 use Rattle.machine.specs.Stores.{putAll}
 use Rattle.machine.specs.Opening.{layoutIn}
 use Rattle.machine.specs.History.{Call, read, start, step, write, State, Reply, reply, after, run, replies, SmallCalls}
-use Rattle.machine.specs.Book.{Entry, bookNumber, noted, bookNext, bookAfter, bookReply, bookReplies, kept}
+use Rattle.machine.specs.Book.{Entry, bookNumber, noted, bookNext, bookAfter, bookReplies, kept}
 use Rattle.machine.specs.DemandThree.{Differ, begins, begun, lends, Lends}
 use Rattle.machine.specs.DemandTwo.{AllIdle}
 use Rattle.machine.proofs.Calls.{Held}
-use Rattle.machine.proofs.Entries.{Far, far-like, differ-right, differ-across, retally, oneMore, tallied-is}
+use Rattle.machine.proofs.Entries.{entryOf, Far, far-like, differ-right, differ-across, retally, oneMore, tallied-is}
 use Rattle.machine.proofs.FirstArena.{First, first-found}
 use Rattle.machine.proofs.BookLanes.{untouched}
-use Rattle.machine.proofs.NextBook.{newEntry}
-use Rattle.machine.proofs.Sim.{Sim, reply-is}
+use Rattle.machine.proofs.Sim.{Sim, reply-is, number-of}
 use Rattle.machine.proofs.SimCalls.{Fresh, sim-next}
 
 -- the empty book, all lanes idle
@@ -65,27 +65,26 @@ far-from : (b w : List Entry) → Apart b w → (d e : Entry) → Like b d → L
 far-from b w f d e k m = far-like (k .entry) e d e (sym (k .lane)) (sym (k .sector)) refl refl (f (k .entry) e (k .member) m)
 
 module _ (a : List ℕ) (bytes : ℕ → List ℕ) (x : First a) (b : List Entry) (y : State) (z : Sim a bytes b y) where
-  -- the number that a call gives, but for reads
-  number-is : (c : Call) → begins ((reply y c) .number) c ≡ begins (bookNumber a b c) c
-  unfolding bookReply
-  number-is (read s buffer) = none ((reply y (read s buffer)) .number) ∙ sym (none (bookNumber a b (read s buffer)))
+  -- what a call begins, by the book's number
+  begins-is : (c : Call) → begins ((reply y c) .number) c ≡ begins (bookNumber a b c) c
+  begins-is (read s buffer) = none ((reply y (read s buffer)) .number) ∙ sym (none (bookNumber a b (read s buffer)))
     where
       none : (n : ℕ) → begins n (read s buffer) ≡ []
       none zero = refl
       none (suc n) = refl
-  number-is (start l s) = ap (λ (r : Reply). begins (r .number) (start l s)) (reply-is a bytes x b y z (start l s))
-  number-is (step l buffer) = ap (λ (r : Reply). begins (r .number) (step l buffer)) (reply-is a bytes x b y z (step l buffer))
-  number-is (write l s buffer) = ap (λ (r : Reply). begins (r .number) (write l s buffer)) (reply-is a bytes x b y z (write l s buffer))
+  begins-is (start l s) = ap (λ (n : ℕ). begins n (start l s)) (number-of a bytes x b y z (start l s) tt)
+  begins-is (step l buffer) = ap (λ (n : ℕ). begins n (step l buffer)) (number-of a bytes x b y z (step l buffer) tt)
+  begins-is (write l s buffer) = ap (λ (n : ℕ). begins n (write l s buffer)) (number-of a bytes x b y z (write l s buffer) tt)
 
   -- the book after a call has the writes of before and the one that the call begins
   next-like : (c : Call) (e : Entry) → List·Memᴰ e (bookNext a b c) → Like b e ⊎ Like (begins ((reply y c) .number) c) e
   unfolding noted
-  next-like c e m = rw (number-is c) (go c (bookNumber a b c) m)
+  next-like c e m = rw (begins-is c) (go c (bookNumber a b c) m)
     where
-      more : (l s t : ℕ) → List·Memᴰ e (record { lane = l; sector = s; tally = t } ∷ b) → Like b e ⊎ Like (newEntry l s ∷ []) e
+      more : (l s t : ℕ) → List·Memᴰ e (entryOf l s t ∷ b) → Like b e ⊎ Like (entryOf l s 0 ∷ []) e
       more l s t k = ⊎-elim
           (λ p. inr (record {
-            entry = newEntry l s;
+            entry = entryOf l s 0;
             member = List·Memᴰ·head refl;
             lane = ap (λ (d : Entry). d .lane) p;
             sector = ap (λ (d : Entry). d .sector) p;
@@ -111,20 +110,19 @@ module _ (a : List ℕ) (bytes : ℕ → List ℕ) (x : First a) (b : List Entry
 
   -- an accepted call, by its answer
   fresh-of : (c : Call) → Apart b (begins ((reply y c) .number) c) → bookNumber a b c ≡ 0 → Fresh b c
-  fresh-of c f e = go c (rw (number-is c, e) at f)
+  fresh-of c f e = go c (rw (begins-is c, e) at f)
     where
       go : (c : Call) → Apart b (begins 0 c) → Fresh b c
       go (read s buffer) g = tt
-      go (start l s) g = λ d m. g d (newEntry l s) m (List·Memᴰ·head refl)
+      go (start l s) g = λ d m. g d (entryOf l s 0) m (List·Memᴰ·head refl)
       go (step l buffer) g = tt
-      go (write l s buffer) g = λ d m. g d (newEntry l s) m (List·Memᴰ·head refl)
+      go (write l s buffer) g = λ d m. g d (entryOf l s 0) m (List·Memᴰ·head refl)
 
   lends-of : (c : Call) → ((reply y c) .number ≡ 0 → lends bytes c) → bookNumber a b c ≡ 0 → lends bytes c
-  unfolding bookReply
   lends-of (read s buffer) f e = tt
   lends-of (start l s) f e = tt
-  lends-of (step l buffer) f e = f (ap (λ (r : Reply). r .number) (reply-is a bytes x b y z (step l buffer)) ∙ e)
-  lends-of (write l s buffer) f e = f (ap (λ (r : Reply). r .number) (reply-is a bytes x b y z (write l s buffer)) ∙ e)
+  lends-of (step l buffer) f e = f (number-of a bytes x b y z (step l buffer) tt ∙ e)
+  lends-of (write l s buffer) f e = f (number-of a bytes x b y z (write l s buffer) tt ∙ e)
 
 -- any list of calls
 pub sim-run : (a : List ℕ) (bytes : ℕ → List ℕ) → First a → (cs : List Call) (b : List Entry) (y : State) → Sim a bytes b y → SmallCalls cs

@@ -3,9 +3,10 @@
 use mathlib.Core.Path.{_≡_, refl, sym, ap, _∙_}
 use mathlib.Core.Logic.{_≢_}
 use mathlib.Core.List.{List}
-use mathlib.Core.Bool.{Bool, true, false, not, _&&_, _||_}
+use mathlib.Core.Bool.{Bool, true, false, not, _&&_, _||_, and-false}
 use Prim.Native.Nat.{ℕ, _+_, _<_}
 use native.Mathlib.Omega.{arith}
+use native.Mathlib.Decide.{decLt}
 use lib.Dec.{eqb, leb}
 use borrow.Author.Tests.{eqb-true, eq-eqb, le-leb, lt-leb}
 use Rattle.format.specs.Tests.{every, some}
@@ -34,6 +35,15 @@ module _ (g : Layout) (a : List ℕ) where
       let z = some-elim l (λ j. pending g a l && (pending g a j && eqb (logged g a l 0) (logged g a j 0)))
       (some-elim (g .N) (λ l. some l (λ j. pending g a l && (pending g a j && eqb (logged g a l 0) (logged g a j 0)))) e l u) j v in
       true-false (sym (and-intro _ _ p (and-intro _ _ q (eq-eqb _ _ d))) ∙ z)
+
+  -- the same of two lanes in any order
+  pub two-apart : twoPending g a ≡ false → (l j : ℕ) → l < g .N → j < g .N → l ≢ j → pending g a l ≡ true → pending g a j ≡ true
+      → logged g a l 0 ≢ logged g a j 0
+  two-apart e l j u v n p q = go (decLt j l)
+    where
+      go : Dec (j < l) → logged g a l 0 ≢ logged g a j 0
+      go (yes d) = two-none e l j u d p q
+      go (no d) = λ z. two-none e j l v (omega arith) q p (sym z)
 
   pub none-two : ((l j : ℕ) → l < g .N → j < l → pending g a l ≡ true → pending g a j ≡ true → logged g a l 0 ≢ logged g a j 0)
       → twoPending g a ≡ false
@@ -88,8 +98,4 @@ module _ (g : Layout) (ok : LayoutOk g) (a : List ℕ) (r : Arena g a) (f : (l :
       (λ t. rw (t, two-same t))
       (λ t. rw t (by-bool (eachOnce g (mapBlock g (mended g a)) (freeOf g a)) _
       (λ o. rw (o, once-differ o, sym (once-spare t) ∙ o))
-      (λ o. let s = sym (once-spare t) ∙ o in rw (o, s) (sym (no (freeDiffer g a))))))
-    where
-      no : (t : Bool) → not (t && false) ≡ true
-      no true = refl
-      no false = refl
+      (λ o. let s = sym (once-spare t) ∙ o in rw (o, s, and-false (freeDiffer g a)))))

@@ -79,97 +79,90 @@ log-value l r (suc (suc (suc (suc j)))) u = absurd (omega arith)
 -- ---- one store of a lane's write
 
 module _ (g : Layout) (a : List ℕ) (lanes : List Lane) (l : ℕ) (i : Inv g a lanes) (u : l < g .N) (b : (laneAt lanes l) .busy ≡ true) where
-  was : LaneInv g a l (laneAt lanes l)
+  abbrev r : Lane
+  r = laneAt lanes l
+
+  was : LaneInv g a l r
   was = i .lane l u
 
   -- a store outside the map, in no other lane's log
   outside : (st : Store) → Fits g st → ((s : ℕ) → inMap s ≢ st .place) → ((j x k : ℕ) → j ≢ l → inFlog j x k ≢ st .place)
-      → LaneInv g (stored g st a) l (storedLane (laneAt lanes l)) → Inv g (stored g st a) (set lanes l (storedLane (laneAt lanes l)))
-  outside st f nm nl own =
-      update lanes l (storedLane (laneAt lanes l)) g a (stored g st a) i u (stored-arena g (i .ok) a st (i .arena)) own
+      → r .made + 1 < g .W + 5
+      → ((k : ℕ) → k < 4 → g .W + k < r .made + 1 → flogWord g (stored g st a) l (r .half) k ≡ logWord r k)
+      → (r .made + 1 < g .W + 4
+      → Before g (stored g st a) l (r .half) (r .block .0) (r .sequence .0))
+      → (r .made + 1 ≡ g .W + 4 → newerHalf g (stored g st a) l ≡ r .half)
+      → Inv g (stored g st a) (set lanes l (storedLane r))
+  outside st f nm nl m wr be af =
+      update lanes l (storedLane r) g a (stored g st a) i u (stored-arena g (i .ok) a st (i .arena)) own
       (λ j k n. lane-frame g a (stored g st a) j
       (λ x y v w. elsewhere g (i .ok) a (st .place) (inFlog j x y) (st .value) (f .range) (k, v, w) (nl j x y n)) (laneAt lanes j)
       (λ _. same-map ((laneAt lanes j) .sector .0) (i .lane j k .sector-in)) (i .lane j k))
       (λ j k n _ c e. i .apart l j u k (λ d. n (sym d)) b c e)
-      (once-same _ _ _ _ _ _ _ same-map (λ j _. same-free lanes l (storedLane (laneAt lanes l)) j (omega (arith, i .long)) refl) (i .once))
+      (once-same _ _ _ _ _ _ _ same-map (λ j _. same-free lanes l (storedLane r) j (omega (arith, i .long)) refl) (i .once))
       (λ s v. rw (same-map s v) (i .map-in s v))
     where
       same-map : (s : ℕ) → s < g .E → mapBlock g (stored g st a) s ≡ mapBlock g a s
       same-map s v = ap (blockOf s) (elsewhere g (i .ok) a (st .place) (inMap s) (st .value) (f .range) v (nm s))
 
-  -- the lane's own record after a store outside the map
-  own : (a′ : List ℕ) → (laneAt lanes l) .made + 1 < g .W + 5
-      → mapBlock g a′ ((laneAt lanes l) .sector .0) ≡ mapBlock g a ((laneAt lanes l) .sector .0)
-      → ((k : ℕ) → k < 4 → g .W + k < (laneAt lanes l) .made + 1 → flogWord g a′ l ((laneAt lanes l) .half) k ≡ logWord (laneAt lanes l) k)
-      → ((laneAt lanes l) .made + 1 < g .W + 4
-      → Before g a′ l ((laneAt lanes l) .half) ((laneAt lanes l) .block .0) ((laneAt lanes l) .sequence .0))
-      → ((laneAt lanes l) .made + 1 ≡ g .W + 4 → newerHalf g a′ l ≡ (laneAt lanes l) .half)
-      → LaneInv g a′ l (storedLane (laneAt lanes l))
-  own a′ m e wr be af = record {
-    block-in = was .block-in;
-    half-in = was .half-in;
-    set-low = was .set-low;
-    set-high = was .set-high;
-    sector-in = was .sector-in;
-    old-in = was .old-in;
-    made-in = m;
-    still = λ x. true-false (sym b ∙ x);
-    mapped = λ _. e ∙ was .mapped b;
-    written = λ k c d. wr k c d ∙ kept k c;
-    before = be;
-    after = af;
-  }
-    where
-      kept : (k : ℕ) → k < 4 → logWord (laneAt lanes l) k ≡ logWord (storedLane (laneAt lanes l)) k
+      kept : (k : ℕ) → k < 4 → logWord r k ≡ logWord (storedLane r) k
       kept zero c = refl
       kept (suc zero) c = refl
       kept (suc (suc zero)) c = refl
       kept (suc (suc (suc k))) c = refl
 
+      -- the lane's own record
+      own : LaneInv g (stored g st a) l (storedLane r)
+      own = record {
+        block-in = was .block-in;
+        half-in = was .half-in;
+        set-low = was .set-low;
+        set-high = was .set-high;
+        sector-in = was .sector-in;
+        old-in = was .old-in;
+        made-in = m;
+        still = λ x. true-false (sym b ∙ x);
+        mapped = λ _. same-map (r .sector .0) (was .sector-in) ∙ was .mapped b;
+        written = λ k c d. wr k c d ∙ kept k c;
+        before = be;
+        after = af;
+      }
+
   -- a data word
-  pub data-inv : (v : ℕ) → v < 4294967296 → (laneAt lanes l) .made < g .W
-      → Inv g (stored g (record { place = inData ((laneAt lanes l) .block .0) ((laneAt lanes l) .made); value = v }) a)
-      (set lanes l (storedLane (laneAt lanes l)))
+  pub data-inv : (v : ℕ) → v < 4294967296 → r .made < g .W
+      → Inv g (stored g (record { place = inData (r .block .0) (r .made); value = v }) a)
+      (set lanes l (storedLane r))
   data-inv v small m =
-      outside st f no₁ (λ j x k n. no₂ j x k)
-      (own (stored g st a) (omega arith)
-      (ap (blockOf ((laneAt lanes l) .sector .0)) (elsewhere g (i .ok) a (st .place) (inMap ((laneAt lanes l) .sector .0)) v (f .range) (was .sector-in)
-      (no₁ ((laneAt lanes l) .sector .0))))
+      outside st f (λ s e. true-false (cc)) (λ j x k n. no-flog j x k) (omega arith)
       (λ k c d. absurd (omega arith))
-      (λ _. before-frame g a (stored g st a) l _ _ _ (was .half-in) (λ k c. flog (1 - (laneAt lanes l) .half) k (omega arith) c)
-      (flog ((laneAt lanes l) .half) 3 (was .half-in) (omega arith)) (was .before (omega arith)))
-      (λ e. absurd (omega arith)))
+      (λ _. before-frame g a (stored g st a) l _ _ _ (was .half-in) (λ k c. flog (1 - r .half) k (omega arith) c)
+      (flog (r .half) 3 (was .half-in) (omega arith)) (was .before (omega arith)))
+      (λ e. absurd (omega arith))
     where
       st : Store
-      st = record { place = inData ((laneAt lanes l) .block .0) ((laneAt lanes l) .made); value = v }
+      st = record { place = inData (r .block .0) (r .made); value = v }
 
       f : Fits g st
       f = record { range = (was .block-in, m); small = small }
 
-      no₁ : (s : ℕ) → inMap s ≢ inData ((laneAt lanes l) .block .0) ((laneAt lanes l) .made)
-      no₁ s e = let z : _≡_ {A = ℕ} 0 1 = cc in omega arith
-
-      no₂ : (j x k : ℕ) → inFlog j x k ≢ inData ((laneAt lanes l) .block .0) ((laneAt lanes l) .made)
-      no₂ j x k e = let z : _≡_ {A = ℕ} 0 1 = cc in omega arith
+      no-flog : (j x k : ℕ) → inFlog j x k ≢ inData (r .block .0) (r .made)
+      no-flog j x k e = true-false (cc)
 
       flog : (x k : ℕ) → x < 2 → k < 4 → flogWord g (stored g st a) l x k ≡ flogWord g a l x k
-      flog x k c d = elsewhere g (i .ok) a (st .place) (inFlog l x k) v (f .range) (u, c, d) (no₂ l x k)
+      flog x k c d = elsewhere g (i .ok) a (st .place) (inFlog l x k) v (f .range) (u, c, d) (no-flog l x k)
 
   -- a word of the next half of the log; the last of them, the sequence, makes that half the newer
-  pub log-inv : (j v : ℕ) → j < 4 → v < 4294967296 → v ≡ logWord (laneAt lanes l) j → (laneAt lanes l) .made ≡ g .W + j
-      → Inv g (stored g (record { place = inFlog l ((laneAt lanes l) .half) j; value = v }) a) (set lanes l (storedLane (laneAt lanes l)))
+  pub log-inv : (j v : ℕ) → j < 4 → v < 4294967296 → v ≡ logWord r j → r .made ≡ g .W + j
+      → Inv g (stored g (record { place = inFlog l (r .half) j; value = v }) a) (set lanes l (storedLane r))
   log-inv j v c small val m =
-      outside st f no₁ no₂
-      (own a′ (omega arith)
-      (ap (blockOf ((laneAt lanes l) .sector .0)) (elsewhere g (i .ok) a (st .place) (inMap ((laneAt lanes l) .sector .0)) v (f .range) (was .sector-in)
-      (no₁ ((laneAt lanes l) .sector .0))))
+      outside st f (λ s e. true-false (cc)) (λ y z k n e. n (cc)) (omega arith)
       (λ k d e. wrote k d e (ℕ-discrete k j))
       (λ d. before-frame g a a′ l _ _ _ (was .half-in) other
-      (flog ((laneAt lanes l) .half) 3 (was .half-in) (omega arith) (λ e. top (omega arith) e)) (was .before (omega arith)))
-      (λ e. turn (omega arith)))
+      (flog (r .half) 3 (was .half-in) (omega arith) (λ e. top (omega arith) e)) (was .before (omega arith)))
+      (λ e. turn (omega arith))
     where
       st : Store
-      st = record { place = inFlog l ((laneAt lanes l) .half) j; value = v }
+      st = record { place = inFlog l (r .half) j; value = v }
 
       a′ : List ℕ
       a′ = stored g st a
@@ -177,59 +170,53 @@ module _ (g : Layout) (a : List ℕ) (lanes : List Lane) (l : ℕ) (i : Inv g a 
       f : Fits g st
       f = record { range = (u, was .half-in, c); small = small }
 
-      no₁ : (s : ℕ) → inMap s ≢ inFlog l ((laneAt lanes l) .half) j
-      no₁ s e = let z : _≡_ {A = ℕ} 0 1 = cc in omega arith
-
-      no₂ : (y z k : ℕ) → y ≢ l → inFlog y z k ≢ inFlog l ((laneAt lanes l) .half) j
-      no₂ y z k n e = n (cc)
-
-      flog : (y k : ℕ) → y < 2 → k < 4 → inFlog l y k ≢ inFlog l ((laneAt lanes l) .half) j → flogWord g a′ l y k ≡ flogWord g a l y k
+      flog : (y k : ℕ) → y < 2 → k < 4 → inFlog l y k ≢ inFlog l (r .half) j → flogWord g a′ l y k ≡ flogWord g a l y k
       flog y k p q n = elsewhere g (i .ok) a (st .place) (inFlog l y k) v (f .range) (u, p, q) n
 
-      other : (k : ℕ) → k < 4 → flogWord g a′ l (1 - (laneAt lanes l) .half) k ≡ flogWord g a l (1 - (laneAt lanes l) .half) k
-      other k q = flog (1 - (laneAt lanes l) .half) k (omega arith) q
-          (λ e. let z : 1 - (laneAt lanes l) .half ≡ (laneAt lanes l) .half = cc in omega (arith, was .half-in))
+      other : (k : ℕ) → k < 4 → flogWord g a′ l (1 - r .half) k ≡ flogWord g a l (1 - r .half) k
+      other k q = flog (1 - r .half) k (omega arith) q
+          (λ e. let z : 1 - r .half ≡ r .half = cc in omega (arith, was .half-in))
 
-      top : j ≢ 3 → inFlog l ((laneAt lanes l) .half) 3 ≢ inFlog l ((laneAt lanes l) .half) j
+      top : j ≢ 3 → inFlog l (r .half) 3 ≢ inFlog l (r .half) j
       top n e = n (cc)
 
-      here : flogWord g a′ l ((laneAt lanes l) .half) j ≡ v
+      here : flogWord g a′ l (r .half) j ≡ v
       here = stored-word g (i .ok) a st (i .arena) f
 
-      wrote : (k : ℕ) → k < 4 → g .W + k < (laneAt lanes l) .made + 1 → Dec (k ≡ j)
-          → flogWord g a′ l ((laneAt lanes l) .half) k ≡ logWord (laneAt lanes l) k
+      wrote : (k : ℕ) → k < 4 → g .W + k < r .made + 1 → Dec (k ≡ j)
+          → flogWord g a′ l (r .half) k ≡ logWord r k
       wrote k d e (yes q) =
-          subst (λ (y : ℕ). flogWord g a′ l ((laneAt lanes l) .half) y ≡ logWord (laneAt lanes l) y) (sym q) (here ∙ val)
-      wrote k d e (no n) = flog ((laneAt lanes l) .half) k (was .half-in) d (λ q. n (cc)) ∙ was .written k d (omega arith)
+          subst (λ (y : ℕ). flogWord g a′ l (r .half) y ≡ logWord r y) (sym q) (here ∙ val)
+      wrote k d e (no n) = flog (r .half) k (was .half-in) d (λ q. n (cc)) ∙ was .written k d (omega arith)
 
-      turn : j ≡ 3 → newerHalf g a′ l ≡ (laneAt lanes l) .half
+      turn : j ≡ 3 → newerHalf g a′ l ≡ r .half
       turn e =
-          let be : Before g a l ((laneAt lanes l) .half) ((laneAt lanes l) .block .0) ((laneAt lanes l) .sequence .0) = was .before (omega arith) in
-          let o3 : flogWord g a′ l (1 - (laneAt lanes l) .half) 3 ≡ flogWord g a l (1 - (laneAt lanes l) .half) 3 = other 3 (omega arith) in
-          turned g a′ l ((laneAt lanes l) .half) (was .half-in)
+          let be : Before g a l (r .half) (r .block .0) (r .sequence .0) = was .before (omega arith) in
+          let o3 : flogWord g a′ l (1 - r .half) 3 ≡ flogWord g a l (1 - r .half) 3 = other 3 (omega arith) in
+          turned g a′ l (r .half) (was .half-in)
           (subst (λ (y : ℕ). 1 ≤ y) (sym o3) (be .set-low)) (subst (λ (y : ℕ). y ≤ 3) (sym o3) (be .set-high))
-          (subst (λ (y : ℕ). flogWord g a′ l ((laneAt lanes l) .half) y ≡ logWord (laneAt lanes l) y) e (here ∙ val) ∙ sym (be .next)
+          (subst (λ (y : ℕ). flogWord g a′ l (r .half) y ≡ logWord r y) e (here ∙ val) ∙ sym (be .next)
           ∙ ap successor (sym o3))
 
   -- any store
   pub step-inv : (buffer : List ℕ) → Small buffer
-      → Inv g (stored g (storeAt g (planOf l (laneAt lanes l)) buffer ((laneAt lanes l) .made)) a) (set lanes l (laneStored g (laneAt lanes l)))
-  step-inv buffer small = go (kind g (planOf l (laneAt lanes l)) buffer ((laneAt lanes l) .made) (was .made-in))
+      → Inv g (stored g (storeAt g (planOf l r) buffer (r .made)) a) (set lanes l (laneStored g r))
+  step-inv buffer small = go (kind g (planOf l r) buffer (r .made) (was .made-in))
     where
       P : Store → Lane → Type 0
       P st q = Inv g (stored g st a) (set lanes l q)
 
-      is : (st : Store) (q : Lane) → storeAt g (planOf l (laneAt lanes l)) buffer ((laneAt lanes l) .made) ≡ st → laneStored g (laneAt lanes l) ≡ q
-          → P st q → P (storeAt g (planOf l (laneAt lanes l)) buffer ((laneAt lanes l) .made)) (laneStored g (laneAt lanes l))
-      is st q e d p = subst (λ (x : Store). P x (laneStored g (laneAt lanes l))) (sym e) (subst (λ (x : Lane). P st x) (sym d) p)
+      is : (st : Store) (q : Lane) → storeAt g (planOf l r) buffer (r .made) ≡ st → laneStored g r ≡ q
+          → P st q → P (storeAt g (planOf l r) buffer (r .made)) (laneStored g r)
+      is st q e d p = subst (λ (x : Store). P x (laneStored g r)) (sym e) (subst (λ (x : Lane). P st x) (sym d) p)
 
-      go : Kind g (planOf l (laneAt lanes l)) buffer ((laneAt lanes l) .made)
-          → P (storeAt g (planOf l (laneAt lanes l)) buffer ((laneAt lanes l) .made)) (laneStored g (laneAt lanes l))
+      go : Kind g (planOf l r) buffer (r .made)
+          → P (storeAt g (planOf l r) buffer (r .made)) (laneStored g r)
       go (isData c e) =
-          is _ (storedLane (laneAt lanes l)) e (stored-more g (laneAt lanes l) (λ x. omega arith))
-          (data-inv (word buffer ((laneAt lanes l) .made)) (word-lt buffer _ small) c)
+          is _ (storedLane r) e (stored-more g r (λ x. omega arith))
+          (data-inv (word buffer (r .made)) (word-lt buffer _ small) c)
       go (isLog j c m e) =
-          is _ (storedLane (laneAt lanes l)) e (stored-more g (laneAt lanes l) (λ x. omega arith))
-          (log-inv j _ c (log-small g (i .ok) (planOf l (laneAt lanes l)) (plan-ok g a lanes l i u) j c) (log-value l (laneAt lanes l) j c) m)
+          is _ (storedLane r) e (stored-more g r (λ x. omega arith))
+          (log-inv j _ c (log-small g (i .ok) (planOf l r) (plan-ok g a lanes l i u) j c) (log-value l r j c) m)
       go (isMap m e) =
-          is (finalStore (laneAt lanes l)) (finishedLane (laneAt lanes l)) e (stored-last g (laneAt lanes l) (omega arith)) (finish g a lanes l i u b m)
+          is (finalStore r) (finishedLane r) e (stored-last g r (omega arith)) (finish g a lanes l i u b m)

@@ -1,6 +1,6 @@
 -- The stores of a write by kind: a data word, a word of the next half of the lane's log, or the map word. Each is at a place of the
 -- arena and below 2^32 where the plan is in range.
-use mathlib.Core.Path.{_≡_, sym, ap, subst}
+use mathlib.Core.Path.{_≡_, ap}
 use mathlib.Core.List.{List}
 use Prim.Native.Nat.{ℕ, zero, suc, _+_, _-_, _<_}
 use native.Mathlib.Omega.{arith}
@@ -12,7 +12,6 @@ use Rattle.format.specs.MapWord.{mappedTo}
 use Rattle.layout.specs.Place.{Layout, LayoutOk, inData, inMap, inFlog, InRange}
 use Rattle.machine.specs.declared.lane.Lane.{Lane}
 use Rattle.machine.specs.Handle.{laneAt}
-use Rattle.machine.specs.Stores.{Store}
 use Rattle.machine.specs.Valid.{Small}
 use Rattle.machine.specs.Writing.{Plan, planOf, logStore, storeAt}
 use Rattle.machine.proofs.Stores.{Fits}
@@ -71,6 +70,15 @@ plan-ok g a lanes l i u = let w = i .lane l u in record {
   sequence-in = omega (arith, w .set-high);
 }
 
+-- every store of a write is at a place of the arena, whatever the bytes
+pub store-range : (g : Layout) (p : Plan) → PlanOk g p → (bytes : List ℕ) (k : ℕ) → k < g .W + 5 → InRange g ((storeAt g p bytes k) .place)
+store-range g p o bytes k h = go (kind g p bytes k h)
+  where
+    go : Kind g p bytes k → InRange g ((storeAt g p bytes k) .place)
+    go (isData u e) = rw e (o .new-in, u)
+    go (isLog j u _ e) = rw e (o .lane-in, o .half-in, u)
+    go (isMap _ e) = rw e (o .sector-in)
+
 module _ (g : Layout) (ok : LayoutOk g) (p : Plan) (o : PlanOk g p) where
   pub log-small : (j : ℕ) → j < 4 → (logStore p j) .value < 4294967296
   log-small zero u = omega (arith, ok .small, ok .blocks, o .sector-in)
@@ -81,18 +89,9 @@ module _ (g : Layout) (ok : LayoutOk g) (p : Plan) (o : PlanOk g p) where
 
   -- every store of a write can be made
   pub store-fits : (bytes : List ℕ) → Small bytes → (k : ℕ) → k < g .W + 5 → Fits g (storeAt g p bytes k)
-  store-fits bytes small k h = go (kind g p bytes k h)
+  store-fits bytes small k h = record { range = store-range g p o bytes k h; small = go (kind g p bytes k h) }
     where
-      go : Kind g p bytes k → Fits g (storeAt g p bytes k)
-      go (isData u e) = subst (Fits g) (sym e) (record { range = (o .new-in, u); small = word-lt bytes k small })
-      go (isLog j u _ e) = subst (Fits g) (sym e) (record { range = (o .lane-in, o .half-in, u); small = log-small j u })
-      go (isMap _ e) = subst (Fits g) (sym e) (record { range = o .sector-in; small = omega (arith, ok .small, o .new-in) })
-
--- the place does not depend on the bytes
-pub store-range : (g : Layout) (p : Plan) → PlanOk g p → (bytes : List ℕ) (k : ℕ) → k < g .W + 5 → InRange g ((storeAt g p bytes k) .place)
-store-range g p o bytes k h = go (kind g p bytes k h)
-  where
-    go : Kind g p bytes k → InRange g ((storeAt g p bytes k) .place)
-    go (isData u e) = subst (λ (st : Store). InRange g (st .place)) (sym e) (o .new-in, u)
-    go (isLog j u _ e) = subst (λ (st : Store). InRange g (st .place)) (sym e) (o .lane-in, o .half-in, u)
-    go (isMap _ e) = subst (λ (st : Store). InRange g (st .place)) (sym e) (o .sector-in)
+      go : Kind g p bytes k → (storeAt g p bytes k) .value < 4294967296
+      go (isData u e) = rw e (word-lt bytes k small)
+      go (isLog j u _ e) = rw e (log-small j u)
+      go (isMap _ e) = rw e (omega (arith, ok .small, o .new-in))

@@ -1,6 +1,6 @@
 -- Lists of stores: an arena after a list of stores depends only on which stores are in the list, where no two disagree on a place.
 -- Two arenas are compared word by word.
-use mathlib.Core.Path.{_≡_, refl, sym, ap, _∙_, subst}
+use mathlib.Core.Path.{_≡_, refl, sym, ap, _∙_}
 use mathlib.Core.Logic.{_≢_, _⊎_, inl, inr}
 use mathlib.Core.List.{List, [], _∷_, _++_, List·Memᴰ, List·Memᴰ·head, List·Memᴰ·tail, List·Memᴰ·cases-cons, List·Memᴰ·not-nil}
 use Prim.Native.Nat.{ℕ, _+_, _*_, _≤_, _<_}
@@ -12,14 +12,12 @@ use Rattle.words.proofs.Laws.{length-putWord, word-putWord-same, word-putWord-o
 use Rattle.layout.specs.Place.{Layout, LayoutOk, Place, at, InRange}
 use Rattle.layout.proofs.Place.{at-inside, at-inj}
 use Rattle.machine.specs.Stores.{Store, stored, putAll}
+use Rattle.machine.proofs.Members.{Each, each-none, each-more}
 
 -- a store that can be made: a place of the arena and a 32-bit value
 pub record Fits (g : Layout) (st : Store) : Type 0 where
   pub range : InRange g (st .place)
   pub small : st .value < 4294967296
-
-abbrev pub Each : (Store → Type 0) → List Store → Type 0
-Each P sts = (st : Store) → List·Memᴰ st sts → P st
 
 -- no two stores of a list disagree on a place
 unfoldable pub Agree : List Store → Type 0
@@ -70,7 +68,7 @@ module _ (g : Layout) (ok : LayoutOk g) where
   putAll-arena (st ∷ ss) a r = putAll-arena ss (stored g st a) (stored-arena a st r)
 
   -- a word at which no store of the list is
-  pub word-miss : (ss : List Store) (a : List ℕ) (i : ℕ) → Each (λ st. at g (st .place) ≢ i) ss → word (putAll g ss a) i ≡ word a i
+  pub word-miss : (ss : List Store) (a : List ℕ) (i : ℕ) → Each (λ (st : Store). at g (st .place) ≢ i) ss → word (putAll g ss a) i ≡ word a i
   unfolding putAll
   word-miss [] a i n = refl
   word-miss (st ∷ ss) a i n =
@@ -79,19 +77,15 @@ module _ (g : Layout) (ok : LayoutOk g) where
 
   -- is there a store at word i?
   pub find : (ss : List Store) (i : ℕ)
-      → ((st : Store) × List·Memᴰ st ss × (at g (st .place) ≡ i)) ⊎ Each (λ st. at g (st .place) ≢ i) ss
-  find [] i = inr (λ st m. absurd (List·Memᴰ·not-nil m))
+      → ((st : Store) × List·Memᴰ st ss × (at g (st .place) ≡ i)) ⊎ Each (λ (st : Store). at g (st .place) ≢ i) ss
+  find [] i = inr (each-none (λ (st : Store). at g (st .place) ≢ i))
   find (su ∷ ss) i = go (ℕ-discrete (at g (su .place)) i) (find ss i)
     where
-      none : (at g (su .place) ≢ i) → Each (λ st. at g (st .place) ≢ i) ss → (st : Store) → (st ≡ su) ⊎ List·Memᴰ st ss → at g (st .place) ≢ i
-      none n r st (inl e) = subst (λ (x : Store). at g (x .place) ≢ i) (sym e) n
-      none n r st (inr m) = r st m
-
-      go : Dec (at g (su .place) ≡ i) → ((st : Store) × List·Memᴰ st ss × (at g (st .place) ≡ i)) ⊎ Each (λ st. at g (st .place) ≢ i) ss
-          → ((st : Store) × List·Memᴰ st (su ∷ ss) × (at g (st .place) ≡ i)) ⊎ Each (λ st. at g (st .place) ≢ i) (su ∷ ss)
+      go : Dec (at g (su .place) ≡ i) → ((st : Store) × List·Memᴰ st ss × (at g (st .place) ≡ i)) ⊎ Each (λ (st : Store). at g (st .place) ≢ i) ss
+          → ((st : Store) × List·Memᴰ st (su ∷ ss) × (at g (st .place) ≡ i)) ⊎ Each (λ (st : Store). at g (st .place) ≢ i) (su ∷ ss)
       go d (inl t) = inl (t .0, List·Memᴰ·tail (t .1), t .2)
       go (yes e) (inr r) = inl (su, List·Memᴰ·head refl, e)
-      go (no n) (inr r) = inr (λ st m. none n r st (List·Memᴰ·cases-cons m))
+      go (no n) (inr r) = inr (each-more (λ (st : Store). at g (st .place) ≢ i) su ss n r)
 
   -- a word at which a store of the list is
   pub word-hit : (ss : List Store) (a : List ℕ) → Arena g a → Each (Fits g) ss → Agree ss → (st : Store) → List·Memᴰ st ss
@@ -109,7 +103,8 @@ module _ (g : Layout) (ok : LayoutOk g) where
       same : (x y : Store) → List·Memᴰ x (su ∷ ss) → List·Memᴰ y (su ∷ ss) → at g (x .place) ≡ at g (y .place) → x .value ≡ y .value
       same x y k k′ e = c x y k k′ (at-inj g ok (x .place) (y .place) (f x k .range) (f y k′ .range) e)
 
-      last : (st ≡ su) ⊎ List·Memᴰ st ss → Each (λ x. at g (x .place) ≢ at g (st .place)) ss → word (putAll g ss a′) (at g (st .place)) ≡ st .value
+      last : (st ≡ su) ⊎ List·Memᴰ st ss → Each (λ (x : Store). at g (x .place) ≢ at g (st .place)) ss
+          → word (putAll g ss a′) (at g (st .place)) ≡ st .value
       last (inl e) n =
           word-miss ss a′ (at g (st .place)) n
           ∙ ap (λ (x : Store). word a′ (at g (x .place))) e
@@ -118,7 +113,7 @@ module _ (g : Layout) (ok : LayoutOk g) where
       last (inr k) n = absurd (n st k refl)
 
       go : ((x : Store) → List·Memᴰ x ss → word (putAll g ss a′) (at g (x .place)) ≡ x .value)
-          → ((x : Store) × List·Memᴰ x ss × (at g (x .place) ≡ at g (st .place))) ⊎ Each (λ x. at g (x .place) ≢ at g (st .place)) ss
+          → ((x : Store) × List·Memᴰ x ss × (at g (x .place) ≡ at g (st .place))) ⊎ Each (λ (x : Store). at g (x .place) ≢ at g (st .place)) ss
           → word (putAll g ss a′) (at g (st .place)) ≡ st .value
       go ih (inl t) =
           ap (word (putAll g ss a′)) (sym (t .2)) ∙ ih (t .0) (t .1) ∙ same (t .0) st (List·Memᴰ·tail (t .1)) m (t .2)
@@ -138,7 +133,7 @@ module _ (g : Layout) (ok : LayoutOk g) where
       c′ : Agree ts
       c′ = unfold Agree in (λ st su m k e. c st su (from st m) (from su k) e)
 
-      eq : (i : ℕ) → ((st : Store) × List·Memᴰ st ss × (at g (st .place) ≡ i)) ⊎ Each (λ st. at g (st .place) ≢ i) ss
+      eq : (i : ℕ) → ((st : Store) × List·Memᴰ st ss × (at g (st .place) ≡ i)) ⊎ Each (λ (st : Store). at g (st .place) ≢ i) ss
           → word (putAll g ss a) i ≡ word (putAll g ts a) i
       eq i (inl t) =
           ap (word (putAll g ss a)) (sym (t .2)) ∙ word-hit ss a r f c (t .0) (t .1)

@@ -9,7 +9,6 @@ use native.Mathlib.Omega.{arith}
 use native.Mathlib.Decide.{decLt}
 use lib.Dec.{ltb}
 use lib.ListN.{length, take, drop, List·getD-eq-default}
-use lib.Seq.{getD-set-same, getD-set-other}
 use borrow.Author.Tests.{eq-eqb, ne-eqb, not-false}
 use Rattle.words.specs.Word.{word, putWord}
 use Rattle.words.proofs.Laws.{length-putWord, getD-putWord-other, word-putWord-same}
@@ -17,7 +16,7 @@ use Rattle.format.specs.MapWord.{flagsOf, blockOf}
 use Rattle.layout.specs.Figures.{Allowed}
 use Rattle.layout.specs.Place.{LayoutOk, layoutOf, at, inData}
 use Rattle.layout.specs.declared.Figures.{Figures}
-use Rattle.layout.proofs.Allowed.{layout-ok, layout-exact}
+use Rattle.layout.proofs.Allowed.{layout-ok}
 use Rattle.machine.specs.declared.lane.Lane.{Lane}
 use Rattle.machine.specs.declared.handle.Handle.{Handle}
 use Rattle.machine.specs.Lane.{noLane, startedLane, laneAfter, finishedLane}
@@ -41,8 +40,11 @@ use Rattle.machine.specs.Table.{
   ReadTable,
 }
 use Rattle.machine.proofs.Rows.{passed}
-use Rattle.machine.proofs.Stores.{Arena, in-arena}
+use Rattle.machine.proofs.Stores.{in-arena}
+use Rattle.machine.proofs.Inv.{lane-same, lane-other}
+use Rattle.machine.proofs.Described.{allowed-arena}
 use Rattle.machine.proofs.StoreKinds.{PlanOk, store-fits}
+use Rattle.machine.proofs.Steps.{stored-more, stored-last}
 use Rattle.machine.proofs.Running.{handle-ok}
 use Rattle.machine.proofs.Calls.{start-found, step-found}
 use Rattle.machine.proofs.Offsets.{word-at, data-start, flog-start, map-start, map-word}
@@ -52,11 +54,6 @@ use Rattle.machine.proofs.Offsets.{word-at, data-start, flog-start, map
 module _ (h : Handle) (a : List ℕ) (k : HandleOk h (length a)) where
   layout : LayoutOk (layoutOf (h .figures))
   layout = layout-ok (h .figures) (length a) (k .figures) (k .size .most)
-
-  arena : Small a → Arena (layoutOf (h .figures)) a
-  arena small =
-      let e = layout-exact (h .figures) (length a) (k .figures) in
-      record { bytes = record { words = omega (arith, k .size .multiple); small = small }; long = omega (arith, e) }
 
   -- the lane's record is one of the list
   listed : (l : ℕ) → l < h .figures .lanes → l < length (h .lanes)
@@ -93,8 +90,8 @@ one-record : (h : Handle) (l : ℕ) (r : Lane) → l < length (h .lanes) → One
 one-record h l r u = record {
   size = refl;
   figures = refl;
-  changed = getD-set-same (h .lanes) l r noLane u;
-  kept = λ j n. getD-set-other (h .lanes) l j r noLane n;
+  changed = lane-same (h .lanes) l r u;
+  kept = lane-other (h .lanes) l r;
 }
 
 -- the block of a map word
@@ -142,12 +139,12 @@ module _ (f : Figures) (l : ℕ) (r : Lane) (buffer : List ℕ) (k : ℕ) where
 -- the record after a store
 module _ (f : Figures) (r : Lane) where
   after-more : r .made + 1 < f .size / 4 + 5 → laneStored (layoutOf f) r ≡ laneAfter r (r .made + 1)
-  unfolding laneStored layoutOf
-  after-more u = rw (ne-eqb (r .made + 1) (f .size / 4 + 5) (omega arith))
+  unfolding layoutOf
+  after-more u = stored-more (layoutOf f) r (λ e. omega arith)
 
   after-last : r .made + 1 ≡ f .size / 4 + 5 → laneStored (layoutOf f) r ≡ finishedLane r
-  unfolding laneStored layoutOf
-  after-last e = rw (eq-eqb (r .made + 1) (f .size / 4 + 5) e)
+  unfolding layoutOf
+  after-last e = stored-last (layoutOf f) r e
 
 module _ (a : List ℕ) (h : Handle) where
   -- the first rule of every row passed
@@ -166,7 +163,7 @@ module _ (a : List ℕ) (h : Handle) where
       let st = storeAt g (planOf l r) buffer (r .made) in
       let fits = store-fits g (layout h a k) (planOf l r) (plan h a k l u) buffer bytes (r .made) (k .lanes l u .made) in
       let o = store-byte f l r buffer (r .made) (length a) (k .figures) in
-      let i = in-arena g (layout h a k) a (arena h a k small) (st .place) (fits .range) in
+      let i = in-arena g (layout h a k) a (allowed-arena f a (k .figures) (k .size .multiple) small) (st .place) (fits .range) in
       record {
         store = rw (e, ← store-word f l r buffer (r .made)) (one-word a (at g (st .place)) (st .value) _ o (rw o at i) (fits .small));
         more = λ v. rw (e, ← after-more f r v) (one-record h l (laneStored g r) (listed h a k l u));

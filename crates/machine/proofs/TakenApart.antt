@@ -1,7 +1,6 @@
 -- A list with its accepted whole writes taken apart leaves what the list leaves, begins the same writes and lends the same bytes;
 -- and so its prefixes are followed in the book as those of the list are.
-use mathlib.Core.Path.{_≡_, refl, sym, ap, ap₂, _∙_, subst}
-use mathlib.Core.Logic.{_⊎_, inl, inr, ⊎-elim}
+use mathlib.Core.Path.{_≡_, refl, sym, ap, ap₂, _∙_}
 use mathlib.Core.List.{
   List,
   [],
@@ -9,22 +8,18 @@ use mathlib.Core.List.{
   _++_,
   append-assoc,
   append-nil,
-  List·Memᴰ,
   List·Memᴰ·head,
   List·Memᴰ·tail,
-  List·Memᴰ·cases-cons,
-  List·Memᴰ·not-nil,
-  List·Memᴰ·append-cases,
 }
 use Prim.Native.Nat.{ℕ, zero, suc}
 use lib.ListN.{replicate}
 use Rattle.layout.specs.Place.{Layout, layoutOf}
 use Rattle.machine.specs.Lane.{writeStores}
-use Rattle.machine.specs.Valid.{Small}
 use Rattle.machine.specs.Writing.{startOf, stepsOf, writeNumber, writeOf}
 use Rattle.machine.specs.History.{Call, read, start, step, write, State, outcomeState, reply, after, run, SmallCall, SmallCalls}
 use Rattle.machine.specs.Book.{Entry}
 use Rattle.machine.specs.DemandThree.{Differ, begins, begun, Lends, apart, takenApart}
+use Rattle.machine.proofs.Members.{each-more, each-one, each-append, each-replicate}
 use Rattle.machine.proofs.Calls.{write-found}
 use Rattle.machine.proofs.Histories.{alike-after}
 use Rattle.machine.proofs.Entries.{differ-left}
@@ -74,13 +69,8 @@ module _ (bytes : ℕ → List ℕ) (y : State) where
     begins = begun-append p q y ∙ ap₂ {C = List Entry} (λ u v. u ++ v) (f .begins ∙ append-nil (begins ((reply y c) .number) c))
         (ap (λ (x : State). begun x q) (f .state) ∙ g .begins);
     lent = λ u. lends-append bytes p q y (f .lent (u .0, tt)) (rw (f .state) (g .lent (u .1)));
-    small = λ u d m. ⊎-elim (f .small (λ e n. u e (first e (List·Memᴰ·cases-cons n))) d) (g .small (λ e n. u e (List·Memᴰ·tail n)) d)
-        (List·Memᴰ·append-cases p m);
+    small = λ u. each-append SmallCall p q (f .small (each-one SmallCall c (u c (List·Memᴰ·head refl)))) (g .small (λ e n. u e (List·Memᴰ·tail n)));
   }
-    where
-      first : (e : Call) → (e ≡ c) ⊎ List·Memᴰ e [] → List·Memᴰ e (c ∷ cs)
-      first e (inl p) = List·Memᴰ·head p
-      first e (inr k) = absurd (List·Memᴰ·not-nil k)
 
 -- ---- the steps of a whole write
 
@@ -108,10 +98,6 @@ steps-lend : (bytes : ℕ → List ℕ) (n : ℕ) (y : State) (l : ℕ) (buffer 
 steps-lend bytes zero y l buffer e = tt
 steps-lend bytes (suc n) y l buffer e = (λ _. e, steps-lend bytes n (after y (step l buffer)) l buffer e)
 
-steps-small : (n : ℕ) (l : ℕ) (buffer : List ℕ) → Small buffer → SmallCalls (replicate n (step l buffer))
-steps-small zero l buffer u c m = absurd (List·Memᴰ·not-nil m)
-steps-small (suc n) l buffer u c m = ⊎-elim (λ p. subst SmallCall (sym p) u) (steps-small n l buffer u c) (List·Memᴰ·cases-cons m)
-
 module _ (bytes : ℕ → List ℕ) (g : Layout) where
   -- an accepted whole write
   whole-alike : (y : State) → layoutOf (y .handle .figures) ≡ g → (l s : ℕ) (buffer : List ℕ) → writeNumber (y .arena) (y .handle) l s buffer ≡ 0
@@ -120,8 +106,8 @@ module _ (bytes : ℕ → List ℕ) (g : Layout) where
     state = unfold run in (steps-run (writeStores g) (after y (start l s)) l buffer ∙ sym (write-after y l s buffer (writeStores g) (rw f) e));
     begins = begins-is;
     lent = λ u. (λ _. tt, steps-lend bytes (writeStores g) (after y (start l s)) l buffer (u .0 write-zero));
-    small = λ u d m. ⊎-elim (λ p. subst SmallCall (sym p) tt)
-        (steps-small (writeStores g) l buffer (u (write l s buffer) (List·Memᴰ·head refl)) d) (List·Memᴰ·cases-cons m);
+    small = λ u. each-more SmallCall (start l s) _ tt
+        (each-replicate SmallCall (writeStores g) (step l buffer) (u (write l s buffer) (List·Memᴰ·head refl)));
   }
     where
       start-zero : (reply y (start l s)) .number ≡ 0

@@ -18,14 +18,11 @@ use mathlib.Core.List.{
 use Prim.Native.Nat.{ℕ, zero, suc, _+_, _<_}
 use native.Mathlib.Omega.{arith}
 use native.Mathlib.Decide.{ℕ-discrete}
+use Rattle.format.proofs.Tests.{true-false}
 use Rattle.layout.specs.Place.{Layout}
 use Rattle.machine.specs.Stores.{Store}
 use Rattle.machine.specs.Writing.{Plan, storeAt, firstStores}
 use Rattle.machine.proofs.StoreKinds.{Kind, isData, isLog, isMap, kind}
-
--- one number is not another
-pub bad : {P : Type 0} → _≡_ {A = ℕ} 0 1 → P
-bad e = absurd (omega arith)
 
 module _ (g : Layout) (p q : Plan) (c d : List ℕ) (k j : ℕ) (u : k < g .W + 5) (v : j < g .W + 5) where
   -- two stores at one place have one number, and their writes share a block, a lane or a sector
@@ -35,13 +32,13 @@ module _ (g : Layout) (p q : Plan) (c d : List ℕ) (k j : ℕ) (u : k < g .W + 
     where
       go : Kind g p c k → Kind g q d j → (k ≡ j) × (p .new ≢ q .new → p .lane ≢ q .lane → p .sector ≢ q .sector → ⊥)
       go (isData _ s) (isData _ t) = (cc, λ n _ _. n (cc))
-      go (isData _ s) (isLog i _ _ t) = bad (cc)
-      go (isData _ s) (isMap _ t) = bad (cc)
-      go (isLog i _ _ s) (isData _ t) = bad (cc)
+      go (isData _ s) (isLog i _ _ t) = true-false (cc)
+      go (isData _ s) (isMap _ t) = true-false (cc)
+      go (isLog i _ _ s) (isData _ t) = true-false (cc)
       go (isLog i _ m s) (isLog i′ _ n t) = let w : i ≡ i′ = cc in (omega arith, λ _ n _. n (cc))
-      go (isLog i _ _ s) (isMap _ t) = bad (cc)
-      go (isMap _ s) (isData _ t) = bad (cc)
-      go (isMap _ s) (isLog i _ _ t) = bad (cc)
+      go (isLog i _ _ s) (isMap _ t) = true-false (cc)
+      go (isMap _ s) (isData _ t) = true-false (cc)
+      go (isMap _ s) (isLog i _ _ t) = true-false (cc)
       go (isMap m s) (isMap n t) = (omega arith, λ _ _ n. n (cc))
 
 -- one write stores to no place twice

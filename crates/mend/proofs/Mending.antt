@@ -14,7 +14,7 @@ use Rattle.machine.specs.Flog.{newerHalf, logged, pending}
 use Rattle.machine.specs.Opening.{laneReadable, mendStore, mends, pendingLanes}
 use Rattle.machine.proofs.Once.{at-most-one}
 use Rattle.machine.proofs.Stores.{putAll-length}
-use Rattle.machine.proofs.Mends.{length-mends, mends-take, mends-more, mends-same, mends-newer, mends-logged}
+use Rattle.machine.proofs.Mends.{length-mends, pending-next, mends-take, mends-more, mends-same, mends-newer, mends-logged}
 use Rattle.machine.proofs.Ghosts.{Judged, pending-kept}
 use borrow.Author.Tests.{ltb-true, ltb-false}
 use Rattle.format.proofs.Tests.{by-bool}
@@ -34,10 +34,6 @@ part-length g a k l = putAll-length g (take k (mends g a l)) a
 pub pending-none : (g : Layout) (a : List ℕ) → 0 ≡ pendingLanes g a 0
 unfolding pendingLanes
 pending-none g a = refl
-
-pending-next : (g : Layout) (a : List ℕ) (l : ℕ) → pendingLanes g a (suc l) ≡ pendingLanes g a l + cond (pending g a l) 1 0
-unfolding pendingLanes
-pending-next g a l = refl
 
 -- a lane's turn, by what it is found to be
 pub count-none : (n : ℕ) (t : Bool) → t ≡ false → n ≡ n + cond t 1 0

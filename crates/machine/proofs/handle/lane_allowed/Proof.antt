@@ -66,6 +66,7 @@ add-result : tie.Need-add-result
 add-result c = search needs
 
 returns-7 : tie.Need-returns-7
+unfolding layoutOf
 returns-7 c =
     let e6 = c .before .before in
     let e5 = e6 .before .before .before in

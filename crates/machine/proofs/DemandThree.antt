@@ -1,4 +1,5 @@
--- Demand 3: the list and the list taken apart are followed in the book at every prefix, and what the claim says is what holds of a book.
+-- Demand 3, put together: the list and the list taken apart are followed in the book at every prefix, and what the claim says is what holds
+-- of a book.
 use mathlib.Core.Path.{_≡_, sym, ap, _∙_}
 use mathlib.Core.List.{List, [], _++_, List·Memᴰ, List·Memᴰ·not-nil, Memᴰ·append-left, List·Permᴰ, Permᴰ·symm}
 use Prim.Native.Nat.{ℕ, _≤_}
