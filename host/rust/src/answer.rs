@@ -1,0 +1,141 @@
+//! The answers of a refused call.
+use std::error::Error;
+use std::fmt;
+
+/// Why a call was refused. The numbers are those of the library's table; an accepted call has no answer but `Ok`.
+///
+/// A refused call changes no byte of the arena, of the sector buffer or of the handle.
+///
+/// ```
+/// use btt::Answer;
+///
+/// let answer = Answer::from_number(9).unwrap();
+/// assert_eq!(answer, Answer::NoSuchSector);
+/// assert_eq!(answer.number(), 9);
+/// assert_eq!(answer.to_string(), "the arena has no such sector: sectors are numbered from 0 to one less than their count");
+/// ```
+#[derive(Clone, Copy, Debug, PartialEq, Eq, Hash, PartialOrd, Ord)]
+#[repr(u32)]
+pub enum Answer {
+    /// 1: the length is not allowed, or, in making, not the figure worked out.
+    WrongLength = 1,
+    /// 2: neither info block is sound.
+    NoInfoBlock = 2,
+    /// 3: a figure of the info block is forbidden, flags apart.
+    ForbiddenFigure = 3,
+    /// 4: flags are not 0.
+    FlagsSet = 4,
+    /// 5: the work buffer is shorter than the number of blocks.
+    ShortWorkBuffer = 5,
+    /// 6: a lane has no newer half, or one that is out of range.
+    LostLane = 6,
+    /// 7: a map word names a block past the last.
+    BadMapWord = 7,
+    /// 8: mapped and free blocks are not every block once.
+    NotValid = 8,
+    /// 9: the sector is not below the number of sectors.
+    NoSuchSector = 9,
+    /// 10: the sector buffer is not a sector long, or an identifier not 16 bytes.
+    WrongBuffer = 10,
+    /// 11: the lane is not below the number of lanes.
+    NoSuchLane = 11,
+    /// 12: the lane has a write in flight.
+    LaneBusy = 12,
+    /// 13: another lane has that sector in flight.
+    SectorBusy = 13,
+    /// 14: the lane has no write in flight.
+    LaneIdle = 14,
+    /// 15: the sector read is marked bad.
+    BadSector = 15,
+    /// 16: the handle breaks a figure, has a record out of range, or does not match the arena's length.
+    BadHandle = 16,
+}
+
+impl Answer {
+    /// All the answers, in the order of their numbers from 1.
+    pub const ALL: [Answer; 16] = [
+        Answer::WrongLength,
+        Answer::NoInfoBlock,
+        Answer::ForbiddenFigure,
+        Answer::FlagsSet,
+        Answer::ShortWorkBuffer,
+        Answer::LostLane,
+        Answer::BadMapWord,
+        Answer::NotValid,
+        Answer::NoSuchSector,
+        Answer::WrongBuffer,
+        Answer::NoSuchLane,
+        Answer::LaneBusy,
+        Answer::SectorBusy,
+        Answer::LaneIdle,
+        Answer::BadSector,
+        Answer::BadHandle,
+    ];
+
+    /// The answer's number in the library's table, 1 to 16.
+    pub fn number(self) -> u32 {
+        self as u32
+    }
+
+    /// The answer of that number; none for 0, which is acceptance, and for numbers past 16.
+    pub fn from_number(number: u32) -> Option<Answer> {
+        Answer::ALL.into_iter().find(|answer| answer.number() == number)
+    }
+
+    /// The result that a number of the library stands for.
+    pub(crate) fn outcome(number: u32) -> Result<(), Answer> {
+        match (number, Answer::from_number(number)) {
+            (0, _) => Ok(()),
+            (_, Some(answer)) => Err(answer),
+            (_, None) => unreachable!("the library answers 0 to 16, not {number}"),
+        }
+    }
+}
+
+impl fmt::Display for Answer {
+    fn fmt(&self, f: &mut fmt::Formatter<'_>) -> fmt::Result {
+        f.write_str(match self {
+            Answer::WrongLength => {
+                "the arena's length is wrong: a multiple of 4,096 from 20,480 to 16,777,216 is allowed, and making needs just the \
+                 length that its figures give"
+            }
+            Answer::NoInfoBlock => "this is no arena: neither its first 4,096 bytes nor its last are a sound info block",
+            Answer::ForbiddenFigure => {
+                "a figure is forbidden: sectors are of 512 or 4,096 bytes, lanes are 1 to 16 and not more than sectors, and the parts lie in order"
+            }
+            Answer::FlagsSet => "the info block has flags set, of which none is known",
+            Answer::ShortWorkBuffer => "the work buffer is too short: opening needs a byte for each block, that is for each sector and each lane",
+            Answer::LostLane => "the log of a lane is damaged: it has no newer half, or one that names a sector or a block that is not there",
+            Answer::BadMapWord => "the map is damaged: a word of it names a block that is not there",
+            Answer::NotValid => "the arena is damaged: some block is mapped or free more than once, and another not at all",
+            Answer::NoSuchSector => "the arena has no such sector: sectors are numbered from 0 to one less than their count",
+            Answer::WrongBuffer => "the bytes given are not of the right length: a sector's bytes for a sector, 16 for an identifier",
+            Answer::NoSuchLane => "the arena has no such lane: lanes are numbered from 0 to one less than their count",
+            Answer::LaneBusy => "the lane has a write in flight, and takes another only when that is done",
+            Answer::SectorBusy => "another lane has a write to that sector in flight",
+            Answer::LaneIdle => "the lane has no write in flight to go on with",
+            Answer::BadSector => "the sector is marked bad, and cannot be read until it is written",
+            Answer::BadHandle => "the handle does not belong to an arena of this length, or is damaged",
+        })
+    }
+}
+
+impl Error for Answer {}
+
+#[cfg(test)]
+mod tests {
+    use super::Answer;
+
+    #[test]
+    fn numbers_go_both_ways() {
+        for (i, answer) in Answer::ALL.into_iter().enumerate() {
+            assert_eq!(answer.number() as usize, i + 1);
+            assert_eq!(Answer::from_number(answer.number()), Some(answer));
+            assert_eq!(Answer::outcome(answer.number()), Err(answer));
+            assert!(answer.to_string().len() > 20);
+        }
+        assert_eq!(Answer::from_number(0), None);
+        assert_eq!(Answer::from_number(17), None);
+        assert_eq!(Answer::outcome(0), Ok(()));
+    }
+}

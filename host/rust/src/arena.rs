@@ -1,0 +1,231 @@
+//! The calls on an arena that is lent to be changed.
+use crate::geometry::{Geometry, Identifiers};
+use crate::handle::{Handle, Lane};
+use crate::view::{address_allowed, ArenaRef, Misaligned};
+use crate::{sys, Answer};
+use std::fmt;
+use std::ptr;
+
+/// What opening found.
+#[derive(Clone, Copy, Debug, PartialEq, Eq)]
+pub struct Opened {
+    /// The handle for the calls that follow.
+    pub handle: Handle,
+    /// The number of lanes that were pending, each of which opening mended by one store to the map.
+    pub mended: u32,
+}
+
+/// An arena in lent bytes, which the calls may change.
+///
+/// Any bytes may be lent, with any handle and any numbers: every call ends, and a refused one changes no byte of the arena, of the
+/// sector buffer or of the handle. While an `Arena` lives nothing else can store to its bytes.
+///
+/// ```
+/// use btt::{AlignedBytes, Arena, Geometry, Identifiers};
+///
+/// # fn main() -> Result<(), Box<dyn std::error::Error>> {
+/// let mut memory = AlignedBytes::zeroed(49_152);
+/// let mut arena = Arena::new(&mut memory)?;
+/// arena.make(Geometry { size: 512, sectors: 60, lanes: 4 }, Identifiers::ZEROES)?;
+///
+/// let mut work = [0; 64];
+/// let mut handle = arena.open(&mut work)?.handle;
+/// arena.write(&mut handle, 0, 7, &[1; 512])?;
+///
+/// let mut sector = [0; 512];
+/// arena.read(&handle, 7, &mut sector)?;
+/// assert_eq!(sector, [1; 512]);
+/// # Ok(())
+/// # }
+/// ```
+pub struct Arena<'a> {
+    bytes: &'a mut [u8],
+}
+
+impl<'a> Arena<'a> {
+    /// Lends bytes as an arena. Their address must be a multiple of 4 (or they are none at all), so that each step of a write is one
+    /// aligned store; nothing else is looked at.
+    pub fn new(bytes: &'a mut [u8]) -> Result<Arena<'a>, Misaligned> {
+        if address_allowed(bytes) {
+            Ok(Arena { bytes })
+        } else {
+            Err(Misaligned)
+        }
+    }
+
+    /// The arena's bytes.
+    pub fn bytes(&self) -> &[u8] {
+        self.bytes
+    }
+
+    /// Gives the bytes back.
+    pub fn into_bytes(self) -> &'a mut [u8] {
+        self.bytes
+    }
+
+    /// The arena for the calls that only read it.
+    pub fn view(&self) -> ArenaRef<'_> {
+        ArenaRef::aligned(self.bytes)
+    }
+
+    /// The address for the library: null where there are no bytes.
+    fn address(&mut self) -> *mut u8 {
+        if self.bytes.is_empty() {
+            ptr::null_mut()
+        } else {
+            self.bytes.as_mut_ptr()
+        }
+    }
+
+    /// Makes an arena, in bytes of just the length that the figures give: both info blocks and every byte after the data blocks are
+    /// written, the data blocks are not touched, and every sector reads as zeroes. A power cut while making promises nothing. Open the
+    /// arena to get its handle.
+    ///
+    /// Answers [`ForbiddenFigure`](Answer::ForbiddenFigure), [`WrongLength`](Answer::WrongLength),
+    /// [`WrongBuffer`](Answer::WrongBuffer) (an identifier is not 16 bytes), the first that applies.
+    ///
+    /// ```
+    /// use btt::{AlignedBytes, Answer, Arena, Geometry, Identifiers};
+    ///
+    /// let geometry = Geometry { size: 4096, sectors: 100, lanes: 2 };
+    /// let mut memory = AlignedBytes::zeroed(geometry.made_length().unwrap() as usize);
+    /// let mut arena = Arena::new(&mut memory).unwrap();
+    /// assert_eq!(arena.make(geometry, Identifiers { own: &[7; 16], parent: &[] }), Err(Answer::WrongBuffer));
+    /// assert_eq!(arena.make(geometry, Identifiers { own: &[7; 16], parent: &[8; 16] }), Ok(()));
+    /// ```
+    pub fn make(&mut self, geometry: Geometry, identifiers: Identifiers) -> Result<(), Answer> {
+        let Geometry { size, sectors, lanes } = geometry;
+        let Identifiers { own, parent } = identifiers;
+        let length = self.bytes.len();
+        // SAFETY: each pointer is of a slice and goes with its length; the arena is borrowed alone, so the others lie apart from it;
+        // its address was looked at by `new`.
+        Answer::outcome(unsafe {
+            sys::btt_make(self.address(), length, size, sectors, lanes, own.as_ptr(), own.len(), parent.as_ptr(), parent.len())
+        })
+    }
+
+    /// Opens the arena: all is judged before anything is stored, then each pending lane, whose write lacked only its map word when
+    /// the power went, is mended by one store to the map.
+    ///
+    /// The work buffer needs a byte for each block, that is for each sector and lane; [`MAX_BLOCKS`](crate::MAX_BLOCKS) is enough for
+    /// every arena. What it holds does not matter. Unless the answer is one of 1 to 5, as many of its bytes as there are blocks are 0
+    /// afterwards; the rest is unchanged.
+    ///
+    /// Answers 1 to 8, the first that applies: [`WrongLength`](Answer::WrongLength), [`NoInfoBlock`](Answer::NoInfoBlock),
+    /// [`ForbiddenFigure`](Answer::ForbiddenFigure), [`FlagsSet`](Answer::FlagsSet), [`ShortWorkBuffer`](Answer::ShortWorkBuffer),
+    /// [`LostLane`](Answer::LostLane), [`BadMapWord`](Answer::BadMapWord), [`NotValid`](Answer::NotValid).
+    ///
+    /// ```
+    /// use btt::{AlignedBytes, Answer, Arena};
+    ///
+    /// let mut memory = AlignedBytes::zeroed(49_152);
+    /// let mut arena = Arena::new(&mut memory).unwrap();
+    /// assert_eq!(arena.open(&mut [0; 64]), Err(Answer::NoInfoBlock));
+    /// ```
+    pub fn open(&mut self, work: &mut [u8]) -> Result<Opened, Answer> {
+        let mut opened = Opened { handle: Handle::default(), mended: 0 };
+        let length = self.bytes.len();
+        // SAFETY: the pointers are of two slices with their lengths, a handle and a number, all borrowed alone and so apart; the
+        // arena's address was looked at by `new`.
+        Answer::outcome(unsafe {
+            sys::btt_open(self.address(), length, work.as_mut_ptr(), work.len(), &raw mut opened.handle, &raw mut opened.mended)
+        })?;
+        Ok(opened)
+    }
+
+    /// An opening that stops after its first `k` stores, or makes all if there are fewer, as a power cut would stop it. It answers
+    /// and leaves the work buffer as [`open`](Arena::open) does, gives the number of lanes that were pending, and no handle.
+    ///
+    /// A host whose medium needs a flush after every store opens by it: see [the crate's page](crate#opening).
+    ///
+    /// ```
+    /// use btt::{AlignedBytes, Arena, Geometry, Identifiers};
+    ///
+    /// let mut memory = AlignedBytes::zeroed(20_480);
+    /// let mut arena = Arena::new(&mut memory).unwrap();
+    /// arena.make(Geometry { size: 512, sectors: 1, lanes: 1 }, Identifiers::ZEROES).unwrap();
+    /// assert_eq!(arena.cut_open(&mut [0; 2], 0), Ok(0));
+    /// ```
+    pub fn cut_open(&mut self, work: &mut [u8], k: u32) -> Result<u32, Answer> {
+        let mut mended = 0;
+        let length = self.bytes.len();
+        // SAFETY: as in `open`.
+        Answer::outcome(unsafe { sys::btt_cut_open(self.address(), length, work.as_mut_ptr(), work.len(), k, &raw mut mended) })?;
+        Ok(mended)
+    }
+
+    /// Makes the next store of the lane's write, one aligned word. After [`Handle::steps`] steps the write is done and the lane idle;
+    /// every step of a write is lent the same sector buffer.
+    ///
+    /// Answers [`BadHandle`](Answer::BadHandle), [`NoSuchLane`](Answer::NoSuchLane), [`LaneIdle`](Answer::LaneIdle),
+    /// [`WrongBuffer`](Answer::WrongBuffer), the first that applies.
+    ///
+    /// ```
+    /// # use btt::{AlignedBytes, Arena, Geometry, Identifiers};
+    /// # let mut memory = AlignedBytes::zeroed(49_152);
+    /// # let mut arena = Arena::new(&mut memory).unwrap();
+    /// # arena.make(Geometry { size: 512, sectors: 60, lanes: 4 }, Identifiers::ZEROES).unwrap();
+    /// # let mut handle = arena.open(&mut [0; 64]).unwrap().handle;
+    /// let sector = [5; 512];
+    /// arena.start(&mut handle, 2, 30)?;
+    /// for _ in 0..handle.steps() {
+    ///     let offset = arena.next_store(&handle, 2)?;
+    ///     arena.step(&mut handle, 2, &sector)?;
+    ///     // Here a host flushes the cache line at `offset` and fences.
+    /// #   assert!(offset < 49_152);
+    /// }
+    /// assert!(handle.lane[2].is_idle());
+    /// # Ok::<(), btt::Answer>(())
+    /// ```
+    pub fn step(&mut self, handle: &mut Handle, lane: u32, buffer: &[u8]) -> Result<(), Answer> {
+        let length = self.bytes.len();
+        // SAFETY: the pointers are of two slices with their lengths and of a handle; arena and handle are borrowed alone, so all lie
+        // apart; the arena's address was looked at by `new`.
+        Answer::outcome(unsafe { sys::btt_step(self.address(), length, handle, lane, buffer.as_ptr(), buffer.len()) })
+    }
+
+    /// A whole write: a start and all its steps in one call, refused before any store.
+    ///
+    /// Nothing can be flushed between its stores: see [the crate's page](crate#stores-that-reach-the-medium) for the mediums on which
+    /// it withstands a power cut. Elsewhere write step by step.
+    ///
+    /// Answers [`BadHandle`](Answer::BadHandle), [`NoSuchLane`](Answer::NoSuchLane), [`LaneBusy`](Answer::LaneBusy),
+    /// [`NoSuchSector`](Answer::NoSuchSector), [`WrongBuffer`](Answer::WrongBuffer), [`SectorBusy`](Answer::SectorBusy),
+    /// [`BadMapWord`](Answer::BadMapWord), the first that applies.
+    pub fn write(&mut self, handle: &mut Handle, lane: u32, sector: u32, buffer: &[u8]) -> Result<(), Answer> {
+        let length = self.bytes.len();
+        // SAFETY: as in `step`.
+        Answer::outcome(unsafe { sys::btt_write(self.address(), length, handle, lane, sector, buffer.as_ptr(), buffer.len()) })
+    }
+
+    /// The info block that counts: see [`ArenaRef::info_block`].
+    pub fn info_block(&self) -> Option<&[u8]> {
+        self.view().info_block()
+    }
+
+    /// Reads a sector: see [`ArenaRef::read`].
+    pub fn read(&self, handle: &Handle, sector: u32, buffer: &mut [u8]) -> Result<(), Answer> {
+        self.view().read(handle, sector, buffer)
+    }
+
+    /// Starts a write: see [`ArenaRef::start`].
+    pub fn start(&self, handle: &mut Handle, lane: u32, sector: u32) -> Result<(), Answer> {
+        self.view().start(handle, lane, sector)
+    }
+
+    /// A lane's record: see [`ArenaRef::lane`].
+    pub fn lane(&self, handle: &Handle, lane: u32) -> Result<Lane, Answer> {
+        self.view().lane(handle, lane)
+    }
+
+    /// Where the lane's next step stores: see [`ArenaRef::next_store`].
+    pub fn next_store(&self, handle: &Handle, lane: u32) -> Result<u64, Answer> {
+        self.view().next_store(handle, lane)
+    }
+}
+
+impl fmt::Debug for Arena<'_> {
+    fn fmt(&self, f: &mut fmt::Formatter<'_>) -> fmt::Result {
+        write!(f, "Arena({} bytes)", self.bytes.len())
+    }
+}

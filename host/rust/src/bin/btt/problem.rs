@@ -1,0 +1,41 @@
+//! What can go wrong, and the exit status that tells it.
+use btt::Answer;
+use std::fmt;
+use std::process::ExitCode;
+
+/// Why the command did not do what it was asked.
+#[derive(Debug)]
+pub enum Problem {
+    /// The library refused.
+    Refused(Answer),
+    /// The command line is not understood.
+    Usage(String),
+    /// A file cannot be read or written.
+    File(String),
+}
+
+impl Problem {
+    pub fn exit_code(&self) -> ExitCode {
+        ExitCode::from(match self {
+            Problem::Refused(_) => 1,
+            Problem::Usage(_) => 2,
+            Problem::File(_) => 3,
+        })
+    }
+}
+
+impl From<Answer> for Problem {
+    fn from(answer: Answer) -> Problem {
+        Problem::Refused(answer)
+    }
+}
+
+impl fmt::Display for Problem {
+    fn fmt(&self, f: &mut fmt::Formatter<'_>) -> fmt::Result {
+        match self {
+            Problem::Refused(answer) => write!(f, "refused {}: {answer}", answer.number()),
+            Problem::Usage(message) => write!(f, "{message}\nbtt --help tells how it is used"),
+            Problem::File(message) => f.write_str(message),
+        }
+    }
+}

@@ -1,0 +1,83 @@
+//! A write to the file of an arena, store by store.
+use crate::lent;
+use crate::problem::Problem;
+use btt::{AlignedBytes, Answer, Volume, MAX_BLOCKS};
+use std::fs::File;
+use std::io;
+use std::os::unix::fs::FileExt;
+
+/// Where stores go.
+pub trait Medium {
+    /// Stores four bytes at an offset.
+    fn store(&mut self, offset: u64, word: [u8; 4]) -> io::Result<()>;
+
+    /// Comes back when every store so far will withstand a power cut.
+    fn sync(&mut self) -> io::Result<()>;
+}
+
+impl Medium for File {
+    fn store(&mut self, offset: u64, word: [u8; 4]) -> io::Result<()> {
+        self.write_all_at(&word, offset)
+    }
+
+    fn sync(&mut self) -> io::Result<()> {
+        self.sync_data()
+    }
+}
+
+fn failed(error: io::Error) -> Problem {
+    Problem::File(format!("the write was cut short, which leaves the sector old or new, and whole: {error}"))
+}
+
+/// Writes a sector of the arena that the bytes hold and the medium has, mending first what opening mends. A refusal stores nothing.
+pub fn write(bytes: &mut AlignedBytes, medium: &mut impl Medium, sector: u32, buffer: &[u8]) -> Result<(), Problem> {
+    Volume::open(lent(&mut bytes.clone()))?.write_sector(sector, buffer)?;
+    mend(bytes, medium)?;
+    let mut volume = Volume::open(lent(bytes))?;
+    let last = volume.handle().steps();
+    // Being killed keeps the stores that were made, in their order, so the order is enough there. When the power goes, a disk may
+    // have written any of the stores since the last synchronising. Data words and the first three words of a half may be there or not
+    // as long as the sequence word is not, for nothing reads them; so all of them are on the disk before it. The map word gives away
+    // the old block, which only a newer half in the log lets opening find, so the sequence word is on the disk before that. And the
+    // last is on the disk before the command says that the sector is written.
+    volume.write_sector_by_steps(sector, buffer, |store| {
+        medium.store(store.offset, store.word).map_err(failed)?;
+        if store.number >= last - 2 {
+            medium.sync().map_err(failed)?;
+        }
+        Ok(())
+    })
+}
+
+/// Makes the stores by which opening mends the arena, one after another, by openings that are cut after 1, 2 and so on of them. They
+/// are on the disk before a write takes one of the blocks that they give away.
+fn mend(bytes: &mut AlignedBytes, medium: &mut impl Medium) -> Result<(), Problem> {
+    let found = bytes.clone();
+    let pending = cut_open(&mut found.clone(), 0)?;
+    for k in 1..=pending {
+        let mut next = found.clone();
+        cut_open(&mut next, k)?;
+        for (offset, word) in changed(bytes, &next) {
+            medium.store(offset, word).map_err(failed)?;
+        }
+        *bytes = next;
+    }
+    if pending > 0 {
+        medium.sync().map_err(failed)?;
+    }
+    Ok(())
+}
+
+fn cut_open(bytes: &mut AlignedBytes, k: u32) -> Result<u32, Answer> {
+    lent(bytes).cut_open(&mut vec![0; MAX_BLOCKS], k)
+}
+
+/// The words that differ, with their offsets.
+fn changed(before: &[u8], after: &[u8]) -> Vec<(u64, [u8; 4])> {
+    let words = before.as_chunks().0.iter().zip(after.as_chunks().0).zip(0..);
+    words.filter(|((old, new), _)| old != new).map(|((_, new), i)| (4 * i, *new)).collect()
+}
+
+#[cfg(test)]
+#[path = "storing_tests.rs"]
+mod tests;

@@ -1,0 +1,111 @@
+//! Every cut of a write to a medium that stops after so many stores.
+use super::*;
+use btt::{Geometry, Identifiers};
+
+/// A medium in memory that fails after so many stores, and remembers what it was told.
+struct Cut {
+    bytes: AlignedBytes,
+    left: usize,
+    told: Vec<Option<u64>>,
+}
+
+impl Medium for Cut {
+    fn store(&mut self, offset: u64, word: [u8; 4]) -> io::Result<()> {
+        if self.left == 0 {
+            return Err(io::Error::other("the power is gone"));
+        }
+        self.left -= 1;
+        self.told.push(Some(offset));
+        self.bytes[offset as usize..][..4].copy_from_slice(&word);
+        Ok(())
+    }
+
+    fn sync(&mut self) -> io::Result<()> {
+        self.told.push(None);
+        Ok(())
+    }
+}
+
+fn cut(bytes: &AlignedBytes, left: usize) -> Cut {
+    Cut { bytes: bytes.clone(), left, told: Vec::new() }
+}
+
+fn made() -> AlignedBytes {
+    let geometry = Geometry { size: 512, sectors: 60, lanes: 4 };
+    let mut bytes = AlignedBytes::zeroed(geometry.made_length().unwrap() as usize);
+    lent(&mut bytes).make(geometry, Identifiers::ZEROES).unwrap();
+    bytes
+}
+
+fn sector(bytes: &AlignedBytes, sector: u32) -> [u8; 512] {
+    let mut bytes = bytes.clone();
+    let mut buffer = [0; 512];
+    Volume::open(lent(&mut bytes)).unwrap().read_sector(sector, &mut buffer).unwrap();
+    buffer
+}
+
+/// An arena with lanes 1 and 3 pending, to sectors 5 and 6.
+fn pending() -> AlignedBytes {
+    let mut bytes = made();
+    let mut arena = lent(&mut bytes);
+    let mut handle = arena.open(&mut [0; 64]).unwrap().handle;
+    for (lane, number) in [(1, 5), (3, 6)] {
+        arena.start(&mut handle, lane, number).unwrap();
+        for _ in 0..132 {
+            arena.step(&mut handle, lane, &[number as u8; 512]).unwrap();
+        }
+    }
+    bytes
+}
+
+#[test]
+fn a_write_cut_anywhere_is_old_or_new() {
+    for start in [made(), pending()] {
+        let before = sector(&start, 5);
+        let all = 133 + if start == made() { 0 } else { 2 };
+        for left in 0..=all {
+            let mut medium = cut(&start, left);
+            let done = write(&mut start.clone(), &mut medium, 5, &[9; 512]);
+            assert_eq!(done.is_ok(), left == all);
+            let expected = if left + 1 >= all { [9; 512] } else { before };
+            assert_eq!(sector(&medium.bytes, 5), expected, "{left} stores");
+            assert_eq!(sector(&medium.bytes, 6), sector(&start, 6));
+            let mut memory = start.clone();
+            if done.is_ok() {
+                write(&mut memory, &mut cut(&start, all), 5, &[9; 512]).unwrap();
+                assert!(memory == medium.bytes, "memory and medium agree");
+            }
+        }
+    }
+}
+
+#[test]
+fn the_medium_is_synchronised_around_the_sequence_word() {
+    let mut medium = cut(&made(), 133);
+    write(&mut made(), &mut medium, 7, &[9; 512]).unwrap();
+    let mut expected: Vec<Option<u64>> = (0..128).map(|word| Some(34_816 + 4 * word)).collect();
+    expected.extend([Some(40_976), Some(40_980), Some(40_984), None, Some(40_988), None, Some(36_892), None]);
+    assert_eq!(medium.told, expected);
+}
+
+#[test]
+fn mending_is_done_in_order_and_first() {
+    let mut medium = cut(&pending(), 135);
+    write(&mut pending(), &mut medium, 7, &[9; 512]).unwrap();
+    assert_eq!(medium.told[..4], [Some(36_864 + 4 * 5), Some(36_864 + 4 * 6), None, Some(4096 + 60 * 512)]);
+    assert_eq!(sector(&medium.bytes, 5), [5; 512]);
+    assert_eq!(sector(&medium.bytes, 6), [6; 512]);
+    assert_eq!(sector(&medium.bytes, 7), [9; 512]);
+}
+
+#[test]
+fn a_refusal_stores_nothing() {
+    for (number, length, answer) in
+        [(60, 512, Answer::NoSuchSector), (59, 511, Answer::WrongBuffer), (0, 513, Answer::WrongBuffer)]
+    {
+        let mut medium = cut(&pending(), 1000);
+        let refused = write(&mut pending(), &mut medium, number, &vec![0; length]);
+        assert!(matches!(refused, Err(Problem::Refused(found)) if found == answer));
+        assert!(medium.told.is_empty() && medium.bytes == pending());
+    }
+}

@@ -1,0 +1,242 @@
+//! Rust callers of every function: the worked figures of document 01, and each refusal.
+mod model;
+
+use btt::{AlignedBytes, Answer, Arena, ArenaRef, Geometry, Handle, Identifiers, Lane, Misaligned, Opened, Volume, MAX_BLOCKS};
+use model::{put_word, seal};
+
+const GEOMETRY: Geometry = Geometry { size: 512, sectors: 60, lanes: 4 };
+const MAP: usize = 36_864;
+const FLOG: usize = 40_960;
+
+/// The fresh arena of 49,152 bytes.
+fn fresh() -> AlignedBytes {
+    let mut memory = AlignedBytes::zeroed(49_152);
+    Arena::new(&mut memory).unwrap().make(GEOMETRY, Identifiers::ZEROES).unwrap();
+    memory
+}
+
+fn opened(memory: &mut AlignedBytes) -> (Arena<'_>, Handle) {
+    let mut arena = Arena::new(memory).unwrap();
+    let handle = arena.open(&mut [0; 64]).unwrap().handle;
+    (arena, handle)
+}
+
+#[test]
+fn lengths_are_those_worked_out() {
+    for (size, sectors, lanes, length) in [(512, 60, 4, 49_152), (512, 1, 1, 20_480), (4096, 1, 1, 24_576)] {
+        let geometry = Geometry { size, sectors, lanes };
+        assert_eq!(geometry.made_length(), Some(length));
+        let mut memory = AlignedBytes::zeroed(length as usize + 4096);
+        let mut make = |length: u64| Arena::new(&mut memory[..length as usize]).unwrap().make(geometry, Identifiers::ZEROES);
+        assert_eq!(make(length), Ok(()));
+        assert_eq!(make(length + 4096), Err(Answer::WrongLength));
+        assert_eq!(make(length - 4096), Err(Answer::WrongLength));
+    }
+    let (_, handle) = opened(&mut fresh());
+    assert_eq!((handle.data, handle.map, handle.flog, handle.copy), (4096, 36_864, 40_960, 45_056));
+}
+
+#[test]
+fn the_work_buffer_for_every_arena_is_long_enough() {
+    let fits = |sectors| Geometry { size: 512, sectors, lanes: 16 }.made_length().is_some();
+    let most = (1..40_000).filter(|sectors| fits(*sectors)).max().unwrap();
+    assert_eq!(most as usize + 16, MAX_BLOCKS);
+}
+
+#[test]
+fn a_write_makes_the_stores_of_case_9() {
+    let mut memory = fresh();
+    let (mut arena, mut handle) = opened(&mut memory);
+    let buffer: Vec<u8> = (0..512).map(|i| (i * 7) as u8).collect();
+    arena.start(&mut handle, 0, 7).unwrap();
+    let mut offsets = Vec::new();
+    for number in 1..=133 {
+        assert_eq!(arena.lane(&handle, 0).unwrap().made, number - 1);
+        let mut seen = [1; 512];
+        arena.read(&handle, 7, &mut seen).unwrap();
+        assert_eq!(seen, [0; 512], "the old sector until the map word is stored");
+        let before = arena.bytes().to_vec();
+        let offset = arena.next_store(&handle, 0).unwrap() as usize;
+        arena.step(&mut handle, 0, &buffer).unwrap();
+        let (after, outside) = (arena.bytes(), |i: &usize| !(offset..offset + 4).contains(i));
+        assert!((0..before.len()).filter(outside).all(|i| before[i] == after[i]));
+        offsets.push((offset, model::word(after, offset)));
+    }
+    let mut expected: Vec<(usize, u32)> = (0..128).map(|i| (34_816 + 4 * i, model::word(&buffer, 4 * i))).collect();
+    expected.extend([(40_976, 7), (40_980, 7), (40_984, 60), (40_988, 2), (36_892, 0xC000_003C)]);
+    assert_eq!(offsets, expected);
+    assert_eq!(arena.lane(&handle, 0), Ok(Lane { block: 7, half: 0, sequence: 3, ..Lane::default() }));
+    assert_eq!(arena.next_store(&handle, 0), Err(Answer::LaneIdle));
+}
+
+#[test]
+fn a_cut_write_is_old_or_new() {
+    for (kept, new, mended) in [(0, false, 0), (131, false, 0), (132, true, 1), (133, true, 0)] {
+        let mut memory = fresh();
+        let (mut arena, mut handle) = opened(&mut memory);
+        arena.start(&mut handle, 0, 7).unwrap();
+        for _ in 0..kept {
+            arena.step(&mut handle, 0, &[5; 512]).unwrap();
+        }
+        assert_eq!(arena.cut_open(&mut [0; 64], 0), Ok(mended));
+        let opened = arena.open(&mut [0; 64]).unwrap();
+        assert_eq!(opened.mended, mended);
+        let mut buffer = [9; 512];
+        arena.read(&opened.handle, 7, &mut buffer).unwrap();
+        assert_eq!(buffer, [if new { 5 } else { 0 }; 512]);
+        assert_eq!(arena.open(&mut [0; 64]), Ok(Opened { mended: 0, handle: opened.handle }));
+    }
+}
+
+#[test]
+fn halves_are_judged_as_in_cases_6_to_8() {
+    let half = |memory: &mut AlignedBytes, lane: usize, words: [u32; 4]| {
+        for (i, word) in words.into_iter().enumerate() {
+            put_word(memory, FLOG + 64 * lane + 16 + 4 * i, word);
+        }
+    };
+    for (word, mended) in [(0, 1), (0xC000_003C, 0)] {
+        let mut memory = fresh();
+        half(&mut memory, 0, [7, 7, 60, 2]);
+        put_word(&mut memory, MAP + 28, word);
+        let found = Arena::new(&mut memory).unwrap().open(&mut [0; 64]).unwrap();
+        assert_eq!((found.mended, found.handle.lane[0].block), (mended, 7));
+        assert_eq!(model::word(&memory, MAP + 28), 0xC000_003C);
+    }
+    let mut memory = fresh();
+    half(&mut memory, 0, [7, 7, 60, 2]);
+    half(&mut memory, 1, [7, 60, 61, 2]);
+    put_word(&mut memory, MAP + 28, 0xC000_003D);
+    let found = Arena::new(&mut memory).unwrap().open(&mut [0; 64]).unwrap();
+    assert_eq!((found.mended, found.handle.lane[0].block, found.handle.lane[1].block), (0, 7, 60));
+}
+
+#[test]
+fn making_is_refused_in_order() {
+    let make = |length: usize, geometry: Geometry, own: &[u8], parent: &[u8]| {
+        let mut memory = AlignedBytes::zeroed(length);
+        let answer = Arena::new(&mut memory).unwrap().make(geometry, Identifiers { own, parent });
+        assert!(answer.is_ok() || memory.iter().all(|byte| *byte == 0));
+        answer
+    };
+    for (size, sectors, lanes) in [(0, 60, 4), (513, 60, 4), (512, 3, 4), (512, 60, 0), (512, 60, 17), (512, 0, 0)] {
+        assert_eq!(make(0, Geometry { size, sectors, lanes }, &[], &[]), Err(Answer::ForbiddenFigure));
+    }
+    let id = [1; 16];
+    assert_eq!(make(49_151, GEOMETRY, &[], &[]), Err(Answer::WrongLength));
+    assert_eq!(make(49_152, GEOMETRY, &[], &id), Err(Answer::WrongBuffer));
+    assert_eq!(make(49_152, GEOMETRY, &id, &[0; 17]), Err(Answer::WrongBuffer));
+    assert_eq!(make(49_152, GEOMETRY, &id, &id), Ok(()));
+    let huge = Geometry { size: 512, sectors: u32::MAX, lanes: 16 };
+    assert_eq!((huge.made_length(), make(49_152, huge, &id, &id)), (None, Err(Answer::WrongLength)));
+}
+
+#[test]
+fn opening_is_refused_with_each_number() {
+    let refused = |change: fn(&mut AlignedBytes), length: usize, room: usize| {
+        let mut memory = fresh();
+        change(&mut memory);
+        let before = memory.clone();
+        let mut work = vec![7; room];
+        let answer = Arena::new(&mut memory[..length]).unwrap().open(&mut work).unwrap_err();
+        assert_eq!(memory, before, "a refusal changes nothing");
+        let cleared = answer.number() > 5;
+        assert_eq!(work.iter().position(|byte| *byte == 7), Some(if cleared { 64 } else { 0 }).filter(|_| room > 0));
+        answer.number()
+    };
+    fn sealed(memory: &mut AlignedBytes, at: usize, word: u32) {
+        put_word(memory, at, word);
+        seal(&mut memory[..4096]);
+    }
+    assert_eq!(refused(|_| (), 49_148, 70), 1);
+    assert_eq!(refused(|_| (), 0, 70), 1);
+    assert_eq!(refused(|memory| (memory[0], memory[45_056]) = (0, 0), 49_152, 70), 2);
+    assert_eq!(refused(|memory| sealed(memory, 72, 5), 49_152, 70), 3);
+    assert_eq!(refused(|memory| sealed(memory, 48, 1), 49_152, 70), 4);
+    assert_eq!(refused(|_| (), 49_152, 63), 5);
+    assert_eq!(refused(|_| (), 49_152, 0), 5);
+    assert_eq!(refused(|memory| put_word(memory, FLOG + 12, 4), 49_152, 70), 6);
+    assert_eq!(refused(|memory| put_word(memory, MAP, 0xC000_0040), 49_152, 70), 7);
+    assert_eq!(refused(|memory| put_word(memory, MAP, 0xC000_0001), 49_152, 70), 8);
+}
+
+#[test]
+fn reads_and_writes_are_refused_with_each_number() {
+    let mut memory = fresh();
+    put_word(&mut memory, MAP + 4 * 5, 0x8000_0005);
+    let (mut arena, mut handle) = opened(&mut memory);
+    let mut buffer = [3; 512];
+    assert_eq!(arena.read(&handle, 59, &mut buffer), Ok(()));
+    let mut buffer = [3; 512];
+    assert_eq!(arena.read(&handle, 60, &mut buffer), Err(Answer::NoSuchSector));
+    assert_eq!(arena.read(&handle, 0, &mut buffer[..511]), Err(Answer::WrongBuffer));
+    assert_eq!(arena.read(&handle, 0, &mut []), Err(Answer::WrongBuffer));
+    assert_eq!(arena.read(&handle, 5, &mut buffer), Err(Answer::BadSector));
+    assert_eq!(arena.read(&Handle::default(), 5, &mut buffer), Err(Answer::BadHandle));
+    assert_eq!(buffer, [3; 512]);
+    arena.start(&mut handle, 1, 8).unwrap();
+    let before = (arena.bytes().to_vec(), handle);
+    assert_eq!(arena.start(&mut handle, 4, 60), Err(Answer::NoSuchLane));
+    assert_eq!(arena.start(&mut handle, 1, 60), Err(Answer::LaneBusy));
+    assert_eq!(arena.start(&mut handle, 0, 60), Err(Answer::NoSuchSector));
+    assert_eq!(arena.start(&mut handle, 0, 8), Err(Answer::SectorBusy));
+    assert_eq!(arena.write(&mut handle, 0, 8, &buffer[..511]), Err(Answer::WrongBuffer));
+    assert_eq!(arena.write(&mut handle, 0, 8, &buffer), Err(Answer::SectorBusy));
+    assert_eq!(arena.write(&mut handle, 0, 60, &[]), Err(Answer::NoSuchSector));
+    assert_eq!(arena.step(&mut handle, 4, &buffer), Err(Answer::NoSuchLane));
+    assert_eq!(arena.step(&mut handle, 0, &[]), Err(Answer::LaneIdle));
+    assert_eq!(arena.step(&mut handle, 1, &buffer[..511]), Err(Answer::WrongBuffer));
+    assert_eq!((arena.bytes(), handle), (&before.0[..], before.1));
+    assert_eq!(arena.write(&mut handle, 2, 5, &buffer), Ok(()), "a write makes a bad sector good");
+    assert_eq!(arena.read(&handle, 5, &mut buffer), Ok(()));
+    let bytes = arena.into_bytes();
+    put_word(bytes, MAP, 0xC000_0040);
+    let arena = Arena::new(bytes).unwrap();
+    assert_eq!(arena.read(&handle, 0, &mut buffer), Err(Answer::BadMapWord));
+    assert_eq!(arena.start(&mut handle, 0, 0), Err(Answer::BadMapWord));
+}
+
+#[test]
+fn the_info_block_is_the_callers_own_bytes() {
+    let mut memory = fresh();
+    assert_eq!(ArenaRef::new(&memory).unwrap().info_block().unwrap().as_ptr(), memory.as_ptr());
+    memory[3] ^= 1;
+    assert_eq!(ArenaRef::new(&memory).unwrap().info_block().unwrap().as_ptr(), memory[45_056..].as_ptr());
+    memory[45_056] ^= 1;
+    assert_eq!(ArenaRef::new(&memory).unwrap().info_block(), None);
+    assert_eq!(ArenaRef::new(&[]).unwrap().info_block(), None);
+}
+
+#[test]
+fn only_the_address_is_judged_before() {
+    let mut memory = AlignedBytes::zeroed(49_160);
+    for shift in 0..8 {
+        assert_eq!(Arena::new(&mut memory[shift..]).is_ok(), shift % 4 == 0);
+        assert_eq!(ArenaRef::new(&memory[shift..]).err(), (shift % 4 != 0).then_some(Misaligned));
+        assert!(Arena::new(&mut memory[shift..shift]).is_ok(), "no bytes have no address");
+    }
+}
+
+#[test]
+fn a_volume_is_a_row_of_sectors() {
+    let mut memory = fresh();
+    let mut volume = Volume::open(Arena::new(&mut memory).unwrap()).unwrap();
+    assert_eq!((volume.sector_size(), volume.sectors(), volume.mended()), (512, 60, 0));
+    for sector in 0..60 {
+        volume.write_sector(sector, &[sector as u8; 512]).unwrap();
+    }
+    let cut =
+        volume.write_sector_by_steps(9, &[99; 512], |store| if store.number == 132 { Err(Answer::BadSector) } else { Ok(()) });
+    assert_eq!(cut, Err(Answer::BadSector));
+    assert_eq!(volume.write_sector(9, &[98; 512]), Err(Answer::SectorBusy), "the lane is left busy");
+    assert_eq!(volume.write_sector_by_steps(10, &[98; 511], |_| Ok::<(), Answer>(())), Err(Answer::WrongBuffer));
+    assert_eq!(volume.handle().idle_lane(), Some(1), "a refused write leaves no lane busy");
+    let (arena, _) = volume.into_parts();
+    let volume = Volume::open(arena).unwrap();
+    assert_eq!(volume.mended(), 1);
+    let mut buffer = [0; 512];
+    for sector in 0..60 {
+        volume.read_sector(sector, &mut buffer).unwrap();
+        assert_eq!(buffer, [if sector == 9 { 99 } else { sector as u8 }; 512]);
+    }
+}

@@ -1,0 +1,140 @@
+//! The library against the model on many arenas, long and short, valid and damaged.
+mod model;
+
+use btt::Geometry;
+use model::both::Both;
+use model::chance::Chance;
+use model::{arenas, counting, figures_of};
+
+/// Opens an arena, by openings that are cut at every place too, and reads and writes it if it opens. Gives opening's answer.
+fn tried(chance: &mut Chance, arena: &[u8]) -> u32 {
+    let both = Both::new(arena);
+    both.info_block();
+    let blocks = counting(arena).map_or(0, |at| figures_of(&arena[at..at + 4096]).blocks.min(40_000) as usize);
+    let room = match chance.below(12) {
+        0 => blocks.saturating_sub(1),
+        1 => 0,
+        2 => blocks + 100,
+        _ => blocks,
+    };
+    let work = chance.bytes(room);
+    let mut opened = both.clone();
+    let number = opened.open(&work);
+    let mut cut = both;
+    for _ in 0..chance.below(4) {
+        let k = if chance.once_in(5) { chance.word() } else { chance.below(4) as u32 };
+        assert_eq!(cut.cut_open(&work, k), number);
+    }
+    assert_eq!(cut.open(&work), number);
+    if number == 0 {
+        assert!(cut.arena == opened.arena && cut.handle == opened.handle, "cut openings leave no trace");
+        used(chance, &mut opened);
+    }
+    number
+}
+
+/// Some calls on an opened arena.
+fn used(chance: &mut Chance, both: &mut Both) {
+    let size = both.handle.sector_size();
+    for _ in 0..4 {
+        let sector = chance.below(both.handle.sectors as usize + 1) as u32;
+        let lane = chance.below(both.handle.lanes as usize + 1) as u32;
+        let length = if chance.once_in(9) { size - 1 } else { size };
+        let buffer = chance.bytes(length);
+        both.read(sector, &mut buffer.clone());
+        both.write(lane, sector, &buffer);
+        both.start(lane, sector);
+        both.lane(lane);
+        both.next_store(lane);
+        both.step(lane, &buffer);
+    }
+    for sector in 0..both.handle.sectors {
+        both.read(sector, &mut vec![1; size]);
+    }
+}
+
+#[test]
+fn valid_arenas_open() {
+    let mut chance = Chance::new(11);
+    let mut mended = 0;
+    for _ in 0..3000 {
+        let arena = arenas::valid(&mut chance);
+        let number = tried(&mut chance, &arena);
+        assert!(number == 0 || number == 5);
+        mended += model::judge(&arena, 100_000).pending.len();
+    }
+    assert!(mended > 1000, "lanes were pending: {mended}");
+}
+
+#[test]
+fn damaged_arenas_are_answered_alike() {
+    let mut chance = Chance::new(12);
+    let mut answers = [0; 9];
+    for _ in 0..12_000 {
+        let mut arena = arenas::valid(&mut chance);
+        arenas::damage(&mut chance, &mut arena);
+        answers[tried(&mut chance, &arena) as usize] += 1;
+    }
+    assert!(answers.iter().all(|count| *count > 10), "every answer came: {answers:?}");
+}
+
+#[test]
+fn random_bytes_are_answered_alike() {
+    let mut chance = Chance::new(13);
+    let lengths = [0, 1, 3, 4, 4095, 4096, 8192, 20_479, 20_480, 20_481, 24_576, 49_152, 65_536];
+    for length in lengths {
+        for _ in 0..20 {
+            let arena = chance.bytes(length);
+            assert_eq!(tried(&mut chance, &arena), if model::length_allowed(length) { 2 } else { 1 });
+        }
+    }
+}
+
+#[test]
+fn long_arenas_are_answered_alike() {
+    let mut chance = Chance::new(14);
+    for length in [16_777_216, 16_777_220, 16_781_312] {
+        let arena = vec![0; length];
+        assert_eq!(tried(&mut chance, &arena), if length == 16_777_216 { 2 } else { 1 });
+    }
+    for geometry in [Geometry { size: 512, sectors: 2000, lanes: 16 }, Geometry { size: 4096, sectors: 500, lanes: 3 }] {
+        let mut both = Both::new(&chance.bytes(geometry.made_length().unwrap() as usize));
+        assert_eq!(both.make(geometry, &[1; 16], &[2; 16]), 0);
+        let made = both.arena.to_vec();
+        for _ in 0..40 {
+            let mut arena = made.clone();
+            arenas::damage(&mut chance, &mut arena);
+            tried(&mut chance, &arena);
+        }
+    }
+}
+
+#[test]
+fn making_is_answered_alike() {
+    let mut chance = Chance::new(15);
+    let mut answers = [0; 11];
+    for _ in 0..3000 {
+        let size = chance.pick(&[512, 512, 4096, 4096, 0, 1024, 513, u32::MAX]);
+        let lanes = chance.pick(&[0, 1, 2, 3, 8, 15, 16, 17, u32::MAX]);
+        let sectors = match chance.below(8) {
+            0 => chance.word(),
+            1 => u32::MAX - chance.below(20) as u32,
+            _ => lanes.wrapping_add(chance.below(30) as u32).wrapping_sub(chance.once_in(4) as u32),
+        };
+        let geometry = Geometry { size, sectors, lanes };
+        let right = geometry.made_length().unwrap_or(20_480) as usize;
+        let length = if chance.once_in(4) { right.saturating_sub(chance.pick(&[1, 4096, 20_480])) } else { right };
+        let id = |chance: &mut Chance| {
+            let length = chance.pick(&[16, 16, 16, 16, 16, 0, 15, 17]);
+            chance.bytes(length)
+        };
+        let (own, parent) = (id(&mut chance), id(&mut chance));
+        let mut both = Both::new(&chance.bytes(length));
+        let number = both.make(geometry, &own, &parent);
+        answers[number as usize] += 1;
+        let expected = model::made_figures(size.into(), sectors.into(), lanes.into()).copy + 4096;
+        assert!(geometry.made_length().is_none_or(|length| u128::from(length) == expected));
+        assert!(number != 0 || both.open(&[9; 128]) == 0);
+    }
+    assert!([0, 1, 3, 10].into_iter().all(|number| answers[number] > 20), "{answers:?}");
+}

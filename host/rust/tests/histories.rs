@@ -1,0 +1,217 @@
+//! Random histories of calls with power cuts, against the model and against a plain row of sectors.
+mod model;
+
+use model::both::Both;
+use model::chance::Chance;
+use model::{arenas, judge};
+
+/// A write in flight: its lane, its sector, its bytes, and how many of its stores are made.
+#[derive(Clone)]
+struct Write {
+    lane: u32,
+    sector: u32,
+    bytes: Vec<u8>,
+    tally: u32,
+}
+
+/// What reading a sector answers, and its bytes, which are the buffer's own where the answer is a refusal.
+type Sector = (u32, Vec<u8>);
+
+/// An arena, the row of sectors that it should be, and the writes in flight.
+#[derive(Clone)]
+struct History {
+    both: Both,
+    row: Vec<Sector>,
+    flight: Vec<Write>,
+}
+
+impl History {
+    fn new(arena: &[u8]) -> History {
+        let mut both = Both::new(arena);
+        assert_eq!(both.open(&[0; 128]), 0);
+        let row = (0..both.handle.sectors).map(|sector| read(&both, sector)).collect();
+        History { both, row, flight: Vec::new() }
+    }
+
+    fn size(&self) -> usize {
+        self.both.handle.sector_size()
+    }
+
+    /// Starts a write that the book accepts or refuses.
+    fn start(&mut self, lane: u32, sector: u32, bytes: Vec<u8>) {
+        let handle = &self.both.handle;
+        let expected = if lane >= handle.lanes {
+            11
+        } else if self.flight.iter().any(|write| write.lane == lane) {
+            12
+        } else if sector >= handle.sectors {
+            9
+        } else if self.flight.iter().any(|write| write.sector == sector) {
+            13
+        } else {
+            0
+        };
+        assert_eq!(self.both.start(lane, sector), expected);
+        if expected == 0 {
+            self.flight.push(Write { lane, sector, bytes, tally: 0 });
+        }
+    }
+
+    /// Makes a step of a write in flight; the row changes with its last.
+    fn step(&mut self, which: usize) {
+        let write = &mut self.flight[which];
+        assert_eq!(self.both.next_store(write.lane), 0);
+        assert_eq!(self.both.step(write.lane, &write.bytes), 0);
+        write.tally += 1;
+        if write.tally == self.both.handle.steps() {
+            let done = self.flight.remove(which);
+            self.row[done.sector as usize] = (0, done.bytes);
+        }
+    }
+
+    /// The power goes: the handle is lost, and opening finishes the writes that lack only their map word.
+    fn cut(&mut self, chance: &mut Chance) {
+        let steps = self.both.handle.steps();
+        for _ in 0..chance.below(3) {
+            assert_eq!(self.both.cut_open(&chance.bytes(128), chance.below(3) as u32), 0);
+        }
+        if chance.once_in(4) {
+            assert_eq!(self.both.cut_open(&[], 1), 5);
+        }
+        assert_eq!(self.both.open(&chance.bytes(128)), 0);
+        for write in self.flight.drain(..) {
+            if write.tally == steps - 1 {
+                self.row[write.sector as usize] = (0, write.bytes);
+            }
+        }
+        let judged = judge(&self.both.arena, 128);
+        assert_eq!((judged.number, judged.pending.len()), (0, 0), "every block is mapped or free, and none is pending");
+    }
+
+    fn check(&self, sector: u32) {
+        assert!(read(&self.both, sector) == self.row[sector as usize], "sector {sector}");
+    }
+
+    fn check_all(&self) {
+        (0..self.both.handle.sectors).for_each(|sector| self.check(sector));
+    }
+}
+
+fn read(both: &Both, sector: u32) -> Sector {
+    let mut buffer = vec![0xEE; both.handle.sector_size()];
+    let number = both.read(sector, &mut buffer);
+    (number, buffer)
+}
+
+/// One random event.
+fn event(chance: &mut Chance, history: &mut History) {
+    let (lanes, sectors) = (history.both.handle.lanes as usize, history.both.handle.sectors as usize);
+    let lane = chance.below(lanes + 1) as u32;
+    let sector = chance.below(sectors + 1) as u32;
+    let bytes = chance.bytes(history.size());
+    match chance.below(12) {
+        0..=2 => history.start(lane, sector, bytes),
+        3..=7 if !history.flight.is_empty() => {
+            let which = chance.below(history.flight.len());
+            let left = history.both.handle.steps() - history.flight[which].tally;
+            let count = if chance.once_in(2) { left.saturating_sub(chance.below(7) as u32) } else { chance.below(40) as u32 };
+            (0..count.min(left)).for_each(|_| history.step(which));
+        }
+        8 | 9 => {
+            if history.both.write(lane, sector, &bytes) == 0 {
+                history.row[sector as usize] = (0, bytes);
+            }
+        }
+        10 => refused(chance, history),
+        _ if chance.once_in(3) => history.cut(chance),
+        _ => history.check(sector.min(sectors as u32 - 1)),
+    }
+}
+
+/// Calls that are refused, and change nothing.
+fn refused(chance: &mut Chance, history: &mut History) {
+    let before = history.both.clone();
+    let (handle, both) = (before.handle, &mut history.both);
+    let short = chance.bytes(before.handle.sector_size() - 1);
+    assert_ne!(both.step(chance.below(16) as u32, &short), 0);
+    assert_ne!(both.write(chance.below(16) as u32, chance.below(40) as u32, &short), 0);
+    assert_ne!(both.read(chance.below(40) as u32, &mut short.clone()), 0);
+    assert_eq!(both.start(0, handle.sectors), if handle.lane[0].busy == 1 { 12 } else { 9 });
+    assert!(both.arena == before.arena && both.handle == handle);
+}
+
+#[test]
+fn histories_go_as_a_plain_row() {
+    let mut chance = Chance::new(21);
+    for _ in 0..300 {
+        let mut history = History::new(&arenas::valid(&mut chance));
+        for _ in 0..60 {
+            event(&mut chance, &mut history);
+        }
+        history.check_all();
+        history.cut(&mut chance);
+        history.check_all();
+    }
+}
+
+/// Writes on different lanes and to different sectors, in a random mix, cut at every store.
+#[test]
+fn a_cut_at_every_store_of_mixed_writes_tears_nothing() {
+    let mut chance = Chance::new(22);
+    for _ in 0..24 {
+        let first = History::new(&arenas::valid(&mut chance));
+        let handle = first.both.handle;
+        let mut sectors: Vec<u32> = (0..handle.sectors).collect();
+        chance.shuffle(&mut sectors);
+        let mut history = first.clone();
+        for (lane, sector) in (0..handle.lanes.min(5)).zip(sectors) {
+            let bytes = chance.bytes(history.size());
+            history.start(lane, sector, bytes);
+        }
+        let writes = history.flight.clone();
+        let mut cuts = 0;
+        while !history.flight.is_empty() {
+            history.step(chance.below(history.flight.len()));
+            cuts += 1;
+            if history.size() == 512 || cuts % 16 == 0 || chance.once_in(16) {
+                let mut cut = history.clone();
+                cut.cut(&mut chance);
+                cut.check_all();
+            }
+        }
+        one_after_another(&mut chance, &first, writes, &history);
+    }
+}
+
+/// The same writes one after another, in a random order, end in the same arena and the same records.
+fn one_after_another(chance: &mut Chance, first: &History, mut writes: Vec<Write>, mixed: &History) {
+    let mut both = first.both.clone();
+    chance.shuffle(&mut writes);
+    for write in writes {
+        assert_eq!(both.write(write.lane, write.sector, &write.bytes), 0);
+    }
+    assert!(both.arena == mixed.both.arena && both.handle == mixed.both.handle);
+}
+
+/// Cuts of an opening that mends several lanes, at each of its stores and again and again, end as one opening does.
+#[test]
+fn cut_openings_end_as_one_opening() {
+    let mut chance = Chance::new(23);
+    let mut seen = 0;
+    for _ in 0..300 {
+        let arena = arenas::valid(&mut chance);
+        let mut whole = Both::new(&arena);
+        assert_eq!(whole.open(&[0; 128]), 0);
+        let pending = judge(&arena, 128).pending.len() as u32;
+        seen = seen.max(pending);
+        for k in 0..=pending {
+            let mut cut = Both::new(&arena);
+            cut.cut_open(&[0; 128], k);
+            assert_eq!(judge(&cut.arena, 128).pending.len() as u32, pending - k);
+            cut.cut_open(&[0; 128], chance.below(3) as u32);
+            cut.open(&[0; 128]);
+            assert!(cut.arena == whole.arena && cut.handle == whole.handle);
+        }
+    }
+    assert!(seen > 5);
+}

@@ -1,0 +1,56 @@
+//! The command killed in the middle of writing: the sector is old or new, and the file opens.
+mod model;
+
+use model::chance::Chance;
+use model::place::Place;
+use model::{calls, judge};
+use std::fs;
+use std::thread::sleep;
+use std::time::{Duration, Instant};
+
+const SECTORS: u32 = 20;
+
+/// What every sector of an arena reads, opened in memory.
+fn row(arena: &[u8]) -> Vec<Vec<u8>> {
+    let mut arena = arena.to_vec();
+    let (number, _, handle) = calls::open(&mut arena, &mut [0; 128]);
+    assert_eq!(number, 0, "the file opens");
+    let read = |sector| {
+        let mut buffer = vec![0; 4096];
+        assert_eq!(calls::read(&arena, &handle, sector, &mut buffer), 0);
+        buffer
+    };
+    (0..SECTORS).map(read).collect()
+}
+
+#[test]
+fn a_killed_write_leaves_the_old_sector_or_the_new() {
+    let place = Place::new("killed");
+    let mut chance = Chance::new(51);
+    place.done(&format!("make arena --size 4096 --sectors {SECTORS} --lanes 3"), &[]);
+    let file = place.path("arena");
+    let began = Instant::now();
+    place.done("write arena 0", &[1; 4096]);
+    let whole = began.elapsed().as_micros() as usize;
+    let mut expected = row(&fs::read(&file).unwrap());
+    let [mut killed, mut middle, mut pending] = [0; 3];
+    for _ in 0..300 {
+        let before = fs::read(&file).unwrap();
+        let sector = chance.below(SECTORS as usize);
+        let bytes = chance.bytes(4096);
+        let mut child = place.begin(&format!("write arena {sector}"), &bytes);
+        sleep(Duration::from_micros(chance.below(whole + whole / 4) as u64));
+        child.kill().unwrap();
+        killed += usize::from(!child.wait().unwrap().success());
+        let after = fs::read(&file).unwrap();
+        let found = row(&after);
+        let is_new = found[sector] == bytes;
+        assert!(is_new || found[sector] == expected[sector], "old or new");
+        expected[sector] = found[sector].clone();
+        assert!(found == expected, "the other sectors are unchanged");
+        middle += usize::from(after != before && !is_new);
+        pending += judge(&after, 128).pending.len();
+    }
+    println!("{killed} killed, {middle} with stores made and the sector old, {pending} pending lanes found");
+    assert!(killed > 0);
+}
