@@ -52,7 +52,7 @@ enum {
 
 /* A lane's record. */
 struct btt_lane {
-    uint32_t busy;              /* 1 with a write in flight, else 0 */
+    uint32_t busy;              /* 1 with a write in flight, else 0; any other value below the lanes is answered with 16 */
     uint32_t block;             /* the free block; of a write in flight, its new block */
     uint32_t half;              /* the half of the lane's flog pair that is written next: 0 or 1 */
     uint32_t sequence;          /* the sequence number that is written next: 1, 2 or 3 */
