@@ -1,0 +1,83 @@
+//! Arenas of 16 MiB in memory, each at an address that is a multiple of 4,096.
+use crate::calls::Calls;
+use crate::handle::Handle;
+use crate::library::{make, Library};
+use std::ops::{Deref, DerefMut};
+use std::slice;
+
+pub const LENGTH: usize = 16_777_216;
+pub const LANES: u32 = 4;
+
+/// A sector size, and the most sectors of that size that 16 MiB hold with four lanes.
+#[derive(Clone, Copy)]
+pub struct Kind {
+    pub size: u32,
+    pub sectors: u32,
+}
+
+pub const LARGE: Kind = Kind { size: 4096, sectors: 4085 };
+pub const SMALL: Kind = Kind { size: 512, sectors: 32_484 };
+
+#[repr(C, align(4096))]
+#[derive(Clone, Copy)]
+struct Page([u8; 4096]);
+
+/// Whole pages of bytes.
+#[derive(Clone)]
+pub struct Pages(Vec<Page>);
+
+impl Pages {
+    pub fn zeroes(length: usize) -> Pages {
+        Pages(vec![Page([0; 4096]); length.div_ceil(4096)])
+    }
+}
+
+impl Deref for Pages {
+    type Target = [u8];
+
+    fn deref(&self) -> &[u8] {
+        // A page is 4,096 bytes with nothing between them.
+        unsafe { slice::from_raw_parts(self.0.as_ptr().cast(), 4096 * self.0.len()) }
+    }
+}
+
+impl DerefMut for Pages {
+    fn deref_mut(&mut self) -> &mut [u8] {
+        unsafe { slice::from_raw_parts_mut(self.0.as_mut_ptr().cast(), 4096 * self.0.len()) }
+    }
+}
+
+/// A sector's worth of bytes that differ from sector to sector and from turn to turn.
+pub fn sector_bytes(size: u32, seed: u32) -> Pages {
+    let mut bytes = Pages::zeroes(4096);
+    let mut state = seed.wrapping_mul(0x9E37_79B9) | 1;
+    for word in bytes[..size as usize].chunks_exact_mut(4) {
+        state ^= state << 13;
+        state ^= state >> 17;
+        state ^= state << 5;
+        word.copy_from_slice(&state.to_le_bytes());
+    }
+    bytes
+}
+
+/// An arena as making leaves it.
+pub fn fresh(kind: Kind) -> Pages {
+    let mut arena = Pages::zeroes(LENGTH);
+    let answer = make(&mut arena, kind.size, kind.sectors, LANES, [b"first identifier", b"other identifier"]);
+    assert_eq!(answer, 0, "making");
+    arena
+}
+
+/// An arena whose sectors are all written once, its lanes in turn.
+pub fn written(kind: Kind) -> Pages {
+    let mut arena = fresh(kind);
+    let mut handle = Handle::default();
+    let mut work = vec![0; (kind.sectors + LANES) as usize];
+    let mut answers = Library::open(&mut arena, &mut work, &mut handle, &mut 0);
+    for sector in 0..kind.sectors {
+        let bytes = sector_bytes(kind.size, sector);
+        answers |= Library::write(&mut arena, &mut handle, sector % LANES, sector, &bytes[..kind.size as usize]);
+    }
+    assert_eq!(answers, 0, "writing every sector");
+    arena
+}

@@ -1,0 +1,44 @@
+//! The library through its C interface, plain Rust and a plain copy of the same bytes, timed side by side in one run.
+mod arena;
+mod calls;
+mod handle;
+mod library;
+mod measure;
+mod plain;
+mod rows;
+mod same;
+
+use arena::{fresh, written, Kind, LARGE, SMALL};
+use rows::Bench;
+use std::fs;
+
+/// The processor's name, where the system says it.
+fn processor() -> String {
+    let text = fs::read_to_string("/proc/cpuinfo").unwrap_or_default();
+    let name = text.lines().find_map(|line| line.strip_prefix("model name")).unwrap_or("unknown");
+    name.trim_start_matches([' ', '\t', ':']).to_string()
+}
+
+fn kind_rows(kind: Kind, size: &str) {
+    rows::opening(&mut Bench::new(kind, fresh(kind)), &format!("opening, sectors of {size}, none written"));
+    let mut bench = Bench::new(kind, written(kind));
+    rows::opening(&mut bench, &format!("opening, sectors of {size}, all written"));
+    rows::whole_writes(&mut bench, &format!("whole write of {size} bytes"));
+    rows::stepped_writes(&mut bench, &format!("stepped write of {size} bytes"), false);
+    rows::stepped_writes(&mut bench, &format!("one step of it ({size})"), true);
+    rows::reads(&mut bench, &format!("read of {size} bytes"));
+}
+
+fn main() {
+    for kind in [LARGE, SMALL] {
+        same::assert_same(kind);
+    }
+    println!("{}. Library and plain Rust gave the same answers, arenas, handles, work buffers and sectors.\n", processor());
+    println!("| One operation | Library | Plain Rust | Copy | Library / plain | Library / copy |");
+    println!("|---|---|---|---|---|---|");
+    kind_rows(LARGE, "4,096");
+    kind_rows(SMALL, "512");
+    let mut bench = Bench::new(LARGE, fresh(LARGE));
+    rows::info_blocks(&mut bench, "info block that counts, one block summed", true);
+    rows::info_blocks(&mut bench, "info block that counts, two blocks summed", false);
+}

@@ -1,0 +1,217 @@
+//! The rows of the table. The library and the plain program have an arena each, in the same state, and change arenas at every round;
+//! the copy has room of its own.
+use crate::arena::{sector_bytes, Kind, Pages, LANES, LENGTH};
+use crate::calls::{Calls, Plain};
+use crate::handle::Handle;
+use crate::library::Library;
+use crate::measure::{measure, Side, Times};
+use std::env;
+use std::hint::black_box;
+
+/// The plain copy.
+#[inline(never)]
+fn copy(into: &mut [u8], from: &[u8]) {
+    into.copy_from_slice(from);
+}
+
+/// An arena, its handle and a work buffer.
+#[derive(Clone)]
+struct Opened {
+    arena: Pages,
+    handle: Handle,
+    work: Pages,
+}
+
+/// Two arenas in the same state, room for the copy, and a sector buffer.
+pub struct Bench {
+    kind: Kind,
+    two: [Opened; 2],
+    room: Pages,
+    buffer: Pages,
+}
+
+impl Bench {
+    pub fn new(kind: Kind, arena: Pages) -> Bench {
+        let mut one = Opened { arena, handle: Handle::default(), work: Pages::zeroes((kind.sectors + LANES) as usize) };
+        one.open::<Library>(1);
+        Bench { kind, two: [one.clone(), one], room: Pages::zeroes(LENGTH), buffer: sector_bytes(kind.size, 12_345) }
+    }
+
+    /// The arena that is a side's in a round, the sector buffer, and the copy's room.
+    fn own(&mut self, side: Side, round: usize) -> (&mut Opened, &mut [u8], &mut [u8]) {
+        (&mut self.two[(side as usize + round) % 2], &mut self.buffer[..self.kind.size as usize], &mut self.room)
+    }
+
+    /// Prints a row, once it is seen that both sides left the same arena and handle.
+    fn print(&self, times: &Times, what: &str) {
+        let [one, other] = &self.two;
+        assert!(one.arena[..] == other.arena[..] && one.handle == other.handle, "the two arenas differ after: {what}");
+        println!("{}", times.row(what));
+    }
+}
+
+impl Opened {
+    fn open<C: Calls>(&mut self, times: u32) {
+        for _ in 0..times {
+            let answer = C::open(&mut self.arena, &mut self.work, &mut self.handle, &mut 0);
+            assert_eq!(answer, 0, "opening");
+        }
+    }
+
+    fn write_round<C: Calls>(&mut self, bytes: &[u8]) {
+        for sector in 0..self.handle.sectors {
+            let answer = C::write(&mut self.arena, &mut self.handle, sector % LANES, sector, bytes);
+            assert_eq!(answer, 0, "a whole write");
+        }
+    }
+
+    fn step_writes<C: Calls>(&mut self, sectors: impl Iterator<Item = u32>, bytes: &[u8]) {
+        for sector in sectors {
+            let lane = sector % LANES;
+            let mut answers = C::start(&self.arena, &mut self.handle, lane, sector);
+            for _ in 0..self.handle.size / 4 + 5 {
+                answers |= C::step(&mut self.arena, &mut self.handle, lane, bytes);
+            }
+            assert_eq!(answers, 0, "a stepped write");
+        }
+    }
+
+    fn read_round<C: Calls>(&mut self, buffer: &mut [u8]) {
+        for sector in 0..self.handle.sectors {
+            let answer = C::read(&self.arena, &self.handle, sector, buffer);
+            assert_eq!(answer, 0, "a read");
+            black_box(&buffer);
+        }
+    }
+
+    fn info_blocks<C: Calls>(&mut self, times: u32, offset: u64) {
+        for _ in 0..times {
+            assert_eq!(C::info_block(black_box(&self.arena)), (offset, 4096), "the info block that counts");
+        }
+    }
+}
+
+/// Whether a row is asked for: all are, unless the command has a word, and then those that hold it.
+fn asked(what: &str) -> bool {
+    env::args().nth(1).is_none_or(|word| what.contains(&word))
+}
+
+/// Opening; the copy is of the bytes that opening reads: the info block, the map and the flog.
+pub fn opening(bench: &mut Bench, what: &str) {
+    if !asked(what) {
+        return;
+    }
+    let handle = bench.two[0].handle;
+    let times = 80_000 / handle.sectors;
+    let parts = [(0, 4096), (handle.map as usize, 4 * handle.sectors as usize), (handle.flog as usize, 64 * LANES as usize)];
+    let measured = measure(300, times, |side, round| match side {
+        Side::Library => bench.own(side, round).0.open::<Library>(times),
+        Side::Plain => bench.own(side, round).0.open::<Plain>(times),
+        Side::Copy => {
+            for (start, length) in (0..times).flat_map(|_| parts) {
+                copy(&mut bench.room[start..start + length], &bench.two[0].arena[start..start + length]);
+                black_box(&bench.room);
+            }
+        }
+    });
+    bench.print(&measured, what);
+}
+
+/// Whole writes, going round the arena, all lanes in turn.
+pub fn whole_writes(bench: &mut Bench, what: &str) {
+    if !asked(what) {
+        return;
+    }
+    let Kind { size, sectors } = bench.kind;
+    let measured = measure(150, sectors, |side, round| {
+        let (one, bytes, room) = bench.own(side, round);
+        match side {
+            Side::Library => one.write_round::<Library>(bytes),
+            Side::Plain => one.write_round::<Plain>(bytes),
+            Side::Copy => room.chunks_exact_mut(size as usize).take(sectors as usize).for_each(|block| copy(block, bytes)),
+        }
+    });
+    bench.print(&measured, what);
+}
+
+/// Stepped writes, a start and all steps, going round; for a sector the copy is of it whole, for a step of one word.
+pub fn stepped_writes(bench: &mut Bench, what: &str, per_step: bool) {
+    if !asked(what) {
+        return;
+    }
+    const BATCH: u32 = 16;
+    let Kind { size, sectors } = bench.kind;
+    let steps = size / 4 + 5;
+    let operations = if per_step { BATCH * steps } else { BATCH };
+    let measured = measure(150, operations, |side, round| {
+        let (one, bytes, room) = bench.own(side, round);
+        let batch = (round as u32 * BATCH..).take(BATCH as usize).map(|sector| sector % sectors);
+        match side {
+            Side::Library => one.step_writes::<Library>(batch, bytes),
+            Side::Plain => one.step_writes::<Plain>(batch, bytes),
+            Side::Copy => {
+                for sector in batch {
+                    copy_sector(&mut room[(sector * size) as usize..][..size as usize], bytes, per_step);
+                }
+            }
+        }
+    });
+    bench.print(&measured, what);
+}
+
+/// Copies a sector, whole or in words of 4 bytes, and then once more the first five words, as many as a write logs and maps.
+fn copy_sector(into: &mut [u8], from: &[u8], by_words: bool) {
+    if !by_words {
+        return copy(into, from);
+    }
+    for at in (0..from.len()).step_by(4).chain((0..20).step_by(4)) {
+        copy(&mut into[at..at + 4], &from[at..at + 4]);
+    }
+}
+
+/// Reads of all sectors, going round.
+pub fn reads(bench: &mut Bench, what: &str) {
+    if !asked(what) {
+        return;
+    }
+    let Kind { size, sectors } = bench.kind;
+    let measured = measure(150, sectors, |side, round| {
+        let (one, buffer, room) = bench.own(side, round);
+        match side {
+            Side::Library => one.read_round::<Library>(buffer),
+            Side::Plain => one.read_round::<Plain>(buffer),
+            Side::Copy => {
+                for block in room.chunks_exact(size as usize).take(sectors as usize) {
+                    copy(buffer, block);
+                    black_box(&buffer);
+                }
+            }
+        }
+    });
+    bench.print(&measured, what);
+}
+
+/// The info block that counts: one block is summed where the first is sound, both where only the copy is. The copy is of those blocks.
+pub fn info_blocks(bench: &mut Bench, what: &str, first_is_sound: bool) {
+    if !asked(what) {
+        return;
+    }
+    const BATCH: u32 = 500;
+    let copy_at = bench.two[0].handle.copy;
+    let offset = if first_is_sound { 0 } else { copy_at };
+    let flip = |bench: &mut Bench| bench.two.iter_mut().for_each(|one| one.arena[4000] ^= u8::from(!first_is_sound));
+    flip(bench);
+    let measured = measure(200, BATCH, |side, round| match side {
+        Side::Library => bench.own(side, round).0.info_blocks::<Library>(BATCH, offset),
+        Side::Plain => bench.own(side, round).0.info_blocks::<Plain>(BATCH, offset),
+        Side::Copy => {
+            let starts = if first_is_sound { &[0][..] } else { &[0, copy_at as usize] };
+            for at in (0..BATCH).flat_map(|_| starts) {
+                copy(&mut bench.room[*at..at + 4096], &bench.two[0].arena[*at..at + 4096]);
+                black_box(&bench.room);
+            }
+        }
+    });
+    flip(bench);
+    bench.print(&measured, what);
+}
