@@ -5,7 +5,7 @@ use layout::length_allowed;
 use machine::answer::Answer;
 use machine::handle::Handle;
 use machine::handle::handle_allowed;
-use writing::store_place;
+use stores::store_place;
 ghost use mathlib.Core.Path.{_≡_};
 ghost use mathlib.Core.Bool.{true};
 ghost use Prim.Native.Nat.{_<_};

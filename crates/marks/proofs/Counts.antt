@@ -1,6 +1,6 @@
 -- Marks: after marking, a byte holds how often its number was met, 2 standing for more. So the marks tell the counts.
 use mathlib.Core.Path.{_≡_, refl, sym, ap, _∙_}
-use mathlib.Core.Bool.{Bool, true, false, cond, _&&_, and-false}
+use mathlib.Core.Bool.{Bool, true, false, cond, _&&_, and-false, and-true}
 use mathlib.Core.List.{List, _++_}
 use Prim.Native.Nat.{ℕ, zero, suc, _+_, _≤_, _<_}
 use native.Mathlib.Omega.{arith}
@@ -11,7 +11,7 @@ use lib.ListN.{length, getD, drop, replicate, length-set, length-replicate, leng
 use lib.Seq.{getD-set-same, getD-set-other, drop-set-lt, drop-at}
 use borrow.Author.Tests.{eqb-true, eqb-false, ne-eqb, le-leb, lt-leb}
 use Rattle.format.specs.Tests.{every}
-use Rattle.format.proofs.Tests.{every-zero, every-more, every-fails, every-same}
+use Rattle.format.proofs.Tests.{every-zero, every-step, every-fails, every-same}
 use Rattle.machine.specs.Opening.{count}
 use Rattle.marks.specs.Marks.{cleared, bumped, marked, marksBetween}
 
@@ -146,18 +146,18 @@ module _ (w : List ℕ) (low high : ℕ) where
   abbrev within : ℕ → Bool
   within b = leb low (getD w b 0) && leb (getD w b 0) high
 
-  pub between-none : marksBetween w 0 low high ≡ true
+  pub between-none : true ≡ marksBetween w 0 low high
   unfolding marksBetween
-  between-none = every-zero within
+  between-none = sym (every-zero within)
 
-  pub mark-low : (n i : ℕ) → i < n → getD w i 0 < low → marksBetween w n low high ≡ false
+  pub mark-low : (i : ℕ) → getD w i 0 < low → false ≡ marksBetween w (i + 1) low high
   unfolding marksBetween
-  mark-low n i h p = every-fails n within i h (rw (lt-leb low (getD w i 0) p))
+  mark-low i p = sym (every-fails (i + 1) within i (omega arith) (rw (lt-leb low (getD w i 0) p)))
 
-  pub mark-high : (n i : ℕ) → i < n → high < getD w i 0 → marksBetween w n low high ≡ false
+  pub mark-high : (i : ℕ) → high < getD w i 0 → false ≡ marksBetween w (i + 1) low high
   unfolding marksBetween
-  mark-high n i h p = every-fails n within i h (rw (lt-leb (getD w i 0) high p, and-false))
+  mark-high i p = sym (every-fails (i + 1) within i (omega arith) (rw (lt-leb (getD w i 0) high p, and-false)))
 
-  pub between-more : (i : ℕ) → marksBetween w i low high ≡ true → low ≤ getD w i 0 → getD w i 0 ≤ high → marksBetween w (i + 1) low high ≡ true
+  pub between-more : (i : ℕ) → low ≤ getD w i 0 → getD w i 0 ≤ high → marksBetween w i low high ≡ marksBetween w (i + 1) low high
   unfolding marksBetween
-  between-more i e p q = every-more i within e (rw (le-leb low (getD w i 0) p, le-leb (getD w i 0) high q))
+  between-more i p q = rw (add-one, every-step, le-leb low (getD w i 0) p, le-leb (getD w i 0) high q, and-true)

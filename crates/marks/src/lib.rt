@@ -80,18 +80,19 @@ fn marks_between(w: &[u8], n: usize, low: u8, high: u8) -> bool
     requires { ⌜ n ≤ length (now w) ⌝ }
     ensures { λ r. ⌜ r ≡ marksBetween (now (w .entry)) n low high ⌝ }
 {
+    let mut all = true;
     let mut b: usize = 0;
     while b < n {
         let m = w[b];
         if m < low {
-            return false;
+            all = false;
         }
         if high < m {
-            return false;
+            all = false;
         }
         b += 1;
     }
-    true
+    all
 }
 
 // Whether every block is claimed once. The first blocks bytes of the work buffer are 0 before and afterwards.

@@ -1,3 +1,2 @@
 pub mod Rules
-pub mod Plans
 pub mod Whole

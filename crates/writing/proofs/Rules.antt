@@ -37,7 +37,8 @@ use Rattle.machine.specs.declared.lane.Lane.{Lane}
 use Rattle.machine.specs.declared.handle.Handle.{Handle}
 use Rattle.machine.proofs.Rows.{passed}
 use Rattle.machine.proofs.Running.{handle-ok}
-use Rattle.writing.specs.Gave.{WriteGives, RecordFit}
+use Rattle.stores.specs.Record.{RecordFit}
+use Rattle.writing.specs.Gave.{WriteGives}
 
 -- a search of the records, turn by turn
 module _ (lanes : List Lane) (s : ℕ) where

@@ -27,8 +27,8 @@ use Rattle.machine.proofs.Inv.{lane-same, lane-other}
 use Rattle.machine.proofs.Running.{handle-ok, ok-handle}
 use Rattle.machine.proofs.Steps.{stored-more, stored-last}
 use Rattle.machine.proofs.Stores.{putAll-length}
-use Rattle.writing.specs.Gave.{withStores, RecordFit}
-use Rattle.writing.proofs.Plans.{first-more}
+use Rattle.stores.specs.Record.{withStores, RecordFit}
+use Rattle.stores.proofs.Plans.{first-more}
 use Rattle.writing.proofs.Rules.{handle-fit, record-fit, write-passed, step-0, step-done}
 
 -- rule 16 lets a handle pass in which a record is replaced by one in range

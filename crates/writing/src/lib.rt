@@ -1,35 +1,29 @@
 // Starting a write, one step of it, and a whole write.
 use format::map::bad_word;
-use format::map::mapped_word;
 use format::numbers::LaneNo;
 use format::numbers::SectorNo;
 use lanes::map_block;
 use lanes::map_word;
 use layout::Figures;
-use layout::data_place;
-use layout::flog_place;
-use layout::map_place;
 use machine::answer::Answer;
 use machine::handle::Handle;
 use machine::handle::handle_allowed;
 use machine::lane::Lane;
-use words::put_word;
-use words::word_at;
+use stores::put_store;
+use stores::put_stores;
 ghost use mathlib.Core.Path.{_≡_};
 ghost use mathlib.Core.Bool.{_&&_};
-ghost use mathlib.Core.List.{List};
-ghost use Prim.Native.Nat.{ℕ, _+_, _/_, _≤_, _<_};
+ghost use Prim.Native.Nat.{_+_, _/_, _≤_, _<_};
 ghost use lib.ListN.{length};
 ghost use lib.Dec.{eqb};
-ghost use Rattle.layout.specs.Place.{layoutOf, at};
+ghost use Rattle.layout.specs.Place.{layoutOf};
 ghost use Rattle.layout.specs.Fit.{Fit};
 ghost use Rattle.machine.specs.Answer.{numberOf};
 ghost use Rattle.machine.specs.Flog.{mapBlock};
 ghost use Rattle.machine.specs.Handle.{laneAt};
-ghost use Rattle.machine.specs.Lane.{startedLane, writeStores};
-ghost use Rattle.machine.specs.Stores.{stored};
-ghost use Rattle.machine.specs.Writing.{planOf, storeAt, laneStored, withLane, inFlight, startOf, stepNumber, stepOf, writeOf};
-ghost use Rattle.writing.specs.Gave.{stepGave, WriteGives, withStores, RecordFit};
+ghost use Rattle.machine.specs.Lane.{startedLane};
+ghost use Rattle.machine.specs.Writing.{laneStored, withLane, inFlight, startOf, stepNumber, stepOf, writeOf};
+ghost use Rattle.writing.specs.Gave.{stepGave, WriteGives};
 
 // What a start, a step or a whole write gives: the answer, and the handle as it then is.
 pub struct Stepped {
@@ -132,70 +126,6 @@ pub fn start(arena: &[u8], h: Handle, lane: LaneNo, sector: SectorNo) -> Stepped
     Stepped {
         answer: answer,
         handle: next,
-    }
-}
-
-// The word number of store k of the write that a record has in flight.
-pub fn store_place(f: Figures, lane: LaneNo, r: Lane, k: u32) -> usize
-    requires { ⌜ RecordFit f (lane .0) r k ⌝ }
-    ensures { λ t. ⌜ ((bytes : List ℕ) → t ≡ at (layoutOf f) (storeAt (layoutOf f) (planOf (lane .0) r) bytes k .place)) ⌝ }
-{
-    let words = f.size / 4;
-    if k < words {
-        return data_place(f, r.block, k as usize);
-    }
-    let j = k - words;
-    if j < 4 {
-        return flog_place(f, lane, r.half, j as usize);
-    }
-    map_place(f, r.sector)
-}
-
-// The word that store k puts there.
-fn store_value(f: Figures, lane: LaneNo, r: Lane, buffer: &[u8], k: u32) -> u32
-    requires { ⌜ RecordFit f (lane .0) r k × (length (now buffer) ≡ f .size) ⌝ }
-    ensures { λ t. ⌜ t ≡ storeAt (layoutOf f) (planOf (lane .0) r) (now (buffer .entry)) k .value ⌝ }
-{
-    let words = f.size / 4;
-    if k < words {
-        return word_at(buffer, k as usize);
-    }
-    let j = k - words;
-    if j == 0 {
-        return r.sector.0;
-    }
-    if j == 1 {
-        return r.old.0;
-    }
-    if j == 2 {
-        return r.block.0;
-    }
-    if j == 3 {
-        return r.sequence.0;
-    }
-    mapped_word(r.block)
-}
-
-// Makes store k of the write that a record has in flight.
-fn put_store(arena: &mut [u8], f: Figures, lane: LaneNo, r: Lane, buffer: &[u8], k: u32)
-    requires { ⌜ Fit f (length (now arena)) × RecordFit f (lane .0) r k × (length (now buffer) ≡ f .size) ⌝ }
-    ensures { λ _. ⌜ now (arena .exit) ≡ stored (layoutOf f) (storeAt (layoutOf f) (planOf (lane .0) r) (now (buffer .entry)) k) (now (arena .entry)) ⌝ }
-{
-    let i = store_place(f, lane, r, k);
-    let v = store_value(f, lane, r, buffer, k);
-    put_word(arena, i, v);
-}
-
-// Makes all stores of a write, in their order.
-fn put_stores(arena: &mut [u8], f: Figures, lane: LaneNo, r: Lane, buffer: &[u8])
-    requires { ⌜ Fit f (length (now arena)) × RecordFit f (lane .0) r 0 × (length (now buffer) ≡ f .size) ⌝ }
-    ensures { λ _. ⌜ now (arena .exit) ≡ withStores f (lane .0) r (now (buffer .entry)) (writeStores (layoutOf f)) (now (arena .entry)) ⌝ }
-{
-    let end = f.size / 4 + 5;
-    let mut k: u32 = 0;
-    while k < end {
-        put_store(arena, f, lane, r, buffer, k);
-        k += 1;
     }
 }
 

@@ -1,6 +1,6 @@
--- `marks_between` meets its contract. The invariant: the marks passed are from low to high.
-use mathlib.Core.Bool.{true}
-use mathlib.Core.Path.{_≡_, sym}
+-- `marks_between` meets its contract. The invariant: all tells whether the marks passed are from low to high.
+use mathlib.Core.Logic.{⊎-elim}
+use mathlib.Core.Path.{_≡_, _∙_}
 use Prim.Native.Nat.{_-_, _≤_}
 use native.Mathlib.Nat.{le-antisymm}
 use borrow.Author.Needs.{needs}
@@ -10,22 +10,16 @@ use Rattle.marks.proofs.marks_between.Statement.{statement}
 use Rattle.marks.proofs.marks_between.Tie as tie
 
 abbrev Inv-loop : tie.InvT-loop
-Inv-loop w n low high b₀ b = (b ≤ n) × (marksBetween w b low high ≡ true)
+Inv-loop w n low high all₀ b₀ all b = (b ≤ n) × (all ≡ marksBetween w b low high)
 
 abbrev μ-loop : tie.MeasureT-loop
-μ-loop w n low high b₀ b = n - b
+μ-loop w n low high all₀ b₀ all b = n - b
 
 loop-holds : tie.Need-loop-holds Inv-loop μ-loop
 loop-holds c = (search needs, between-none _ _ _)
 
 shared-slice-read-m : tie.Need-shared-slice-read-m Inv-loop μ-loop
 shared-slice-read-m c = search needs
-
-returns : tie.Need-returns Inv-loop μ-loop
-returns c = sym (mark-low _ _ _ _ _ (c .before .before .loop-test .taken) (c .if1 .taken))
-
-returns-2 : tie.Need-returns-2 Inv-loop μ-loop
-returns-2 c = sym (mark-high _ _ _ _ _ (c .before .before .before .loop-test .taken) (c .if2 .taken))
 
 add-b : tie.Need-add-b Inv-loop μ-loop
 add-b c = search needs
@@ -34,22 +28,19 @@ loop-less : tie.Need-loop-less Inv-loop μ-loop
 loop-less c = search needs
 
 loop-again : tie.Need-loop-again Inv-loop μ-loop
-loop-again c = (search needs, between-more _ _ _ _ (c .before .before .before .before .loop .inv .1) (c .before .if1 .left) (c .if2 .left))
+loop-again c = (
+  search needs,
+  ⊎-elim
+      (λ v. v .1 ∙ mark-high _ _ _ _ (v .0 .taken))
+      (λ v. v .1 ∙ ⊎-elim
+      (λ u. u .1 ∙ mark-low _ _ _ _ (u .0 .taken))
+      (λ u. u .1 ∙ c .before .before .before .before .loop .inv .1 ∙ between-more _ _ _ _ (u .0 .left) (v .0 .left))
+      (c .before .if1 .came))
+      (c .if2 .came),
+)
 
-returns-3 : tie.Need-returns-3 Inv-loop μ-loop
-returns-3 c = sym (rw (le-antisymm (c .before .loop .inv .0) (c .loop-test .left)) at (c .before .loop .inv .1))
+returns : tie.Need-returns Inv-loop μ-loop
+returns c = rw (le-antisymm (c .before .loop .inv .0) (c .loop-test .left)) at (c .before .loop .inv .1)
 
 pub marks-between-spec : {M : Type 1} → statement M
-marks-between-spec =
-    tie.close
-    (tie.spec
-    Inv-loop
-    μ-loop
-    loop-holds
-    shared-slice-read-m
-    returns
-    returns-2
-    add-b
-    loop-less
-    loop-again
-    returns-3)
+marks-between-spec = tie.close (tie.spec Inv-loop μ-loop loop-holds shared-slice-read-m add-b loop-less loop-again returns)

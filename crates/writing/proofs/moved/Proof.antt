@@ -1,6 +1,7 @@
 -- `writing::moved` meets its contract: the last store finishes the record, another counts.
-use Rattle.writing.proofs.Plans.{moved-last, moved-on}
-use mathlib.Core.Path.{_∙_}
+use Rattle.layout.specs.Place.{layoutOf}
+use Rattle.machine.proofs.Steps.{stored-more, stored-last}
+use mathlib.Core.Path.{sym, _∙_}
 use borrow.Author.Needs.{needs}
 use Rattle.writing.proofs.moved.Statement.{statement}
 use Rattle.writing.proofs.moved.Tie as tie
@@ -15,13 +16,15 @@ finished-requires : tie.Need-finished-requires
 finished-requires c κs = search needs
 
 returns : tie.Need-returns
-returns c = c .finished .ensures ∙ moved-last _ _ (c .before .if1 .taken)
+unfolding layoutOf
+returns c = c .finished .ensures ∙ sym (stored-last _ _ (c .before .if1 .taken))
 
 stored-requires : tie.Need-stored-requires
 stored-requires c κs = search needs
 
 returns-2 : tie.Need-returns-2
-returns-2 c = c .stored .ensures ∙ moved-on _ _ (c .before .if1 .left)
+unfolding layoutOf
+returns-2 c = c .stored .ensures ∙ sym (stored-more _ _ (c .before .if1 .left))
 
 pub moved-spec : {M : Type 1} → statement M
 moved-spec =

@@ -2,7 +2,7 @@
 use mathlib.Core.List.{[]}
 use Prim.Native.Nat.{_+_, _*_, _≤_}
 use lib.ListN.{length}
-use Rattle.writing.proofs.Plans.{store-inside}
+use Rattle.stores.proofs.Plans.{store-inside}
 use Rattle.writing.proofs.Rules.{handle-fit, next-fit}
 use Rattle.btt.proofs.Rules.{few}
 use Rattle.btt.specs.Calls.{nextOffset}
