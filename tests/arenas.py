@@ -100,6 +100,7 @@ ARENAS = {
     "refused-6-new": lambda: half(fresh(), 1, 1, 7, 61, 64, 2),
     "refused-6-before-7": lambda: mapped(half(fresh(), 3, 1, 7, 61, 64, 2), 0, 0xC0000040),
     "refused-7": lambda: mapped(fresh(), 59, 0x80000040),
+    "refused-7-high-bits": lambda: mapped(fresh(), 5, 0xE0000005),
     "refused-8-mapped-twice": lambda: mapped(fresh(), 5, 0xC0000006),
     "refused-8-free-twice": lambda: half(fresh(), 0, 1, 7, 61, 61, 2),
     "refused-8-pending-twice": lambda: half(half(fresh(), 0, 1, 7, 7, 60, 2), 1, 1, 7, 7, 61, 2),

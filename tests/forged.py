@@ -1,6 +1,5 @@
 """Forged handles and random calls: what a history gives the library beside the latest handle and calls that are accepted."""
 import calls
-import library
 import model
 
 TOP32, TOP64 = 2**32, 2**64
@@ -148,8 +147,8 @@ def past_the_lanes(rng, handle, f):
 
 
 def reserved_word(rng, handle, f):
-    """A reserved word that is not 0, where the library says what becomes of it."""
-    handle.reserved = rng.getrandbits(32) if library.RESERVED_IS_KEPT else 0
+    """A reserved word that is not 0, which every call keeps."""
+    handle.reserved = rng.getrandbits(32)
 
 
 KINDS = (reserved_word, one_size, one_start, odd_start, low_data, other_length, other_slice, early_copy, fewer_sectors, fewer_lanes, more_lanes)

@@ -1,7 +1,7 @@
 """Random histories of calls, each call made by the model and by a library and compared, with the promises of the rules checked at every cut.
 
 A history begins with a made, a random valid or a damaged arena, and goes on with calls through the latest handle, power cuts and openings.
-Run as a program, with a first seed and a number of histories, it tries the library, or the model against itself while there is none.
+Run as a program, with a first seed and a number of histories, it tries the library.
 """
 import random
 import sys
@@ -296,7 +296,8 @@ class History:
         elif chance < 0.92:
             copy, f = pair.aside(), pair.handle.figures
             focus = forged.a_sector(rng, pair.handle) % f.sectors
-            low = rng.choice((0, f.blocks - 1, f.blocks, 2**30 - 1, rng.randrange(f.blocks)))
+            block = rng.randrange(f.blocks)
+            low = rng.choice((0, f.blocks - 1, f.blocks, 2**30 - 1, block, random_arenas.past_the_last(rng, f, block)))
             copy.put([(f.map + 4 * focus, rng.randrange(4) << 30 | low)])
         else:
             copy = pair.aside(arena=rng.choice((pair.arena + bytes(4096), pair.arena[:-4096], pair.arena[:-1], b"")))
@@ -362,9 +363,8 @@ def unseen(notes):
 
 
 def main(first=1, count=500):
-    lib = library.built() if library.listed("btt") else library.ModelLibrary()
     began = time.process_time()
-    notes, last, fault = run(lib, count, first)
+    notes, last, fault = run(library.built(), count, first)
     print(dict(sorted(notes.seen.items())), "cuts", dict(sorted(notes.cuts.items())))
     print("%d calls to history %d, fault: %s, never seen: %s" % (sum(notes.seen.values()), last, fault, unseen(notes)))
     print("%.1f s" % (time.process_time() - began))

@@ -15,11 +15,8 @@ TOP = pathlib.Path(__file__).resolve().parent.parent
 ARCHIVE = TOP / "target" / "staticlib" / "libbtt.a"
 SHARED = TOP / "target" / "libbtt.so"
 
-# What a parameter is in C: bytes are a pointer and a length, a handle a pointer (and a length, if so said), a word a u32, a count a pointer to one.
-# An accepted call keeps the handle's reserved word, if so said; a refused one always does.
+# What a parameter is in C: bytes are a pointer and a length, a handle a pointer, a word a u32, a count a pointer to one.
 BYTES, HANDLE, WORD, COUNT = "bytes", "handle", "word", "count"
-HANDLE_HAS_LENGTH = False
-RESERVED_IS_KEPT = True
 LIBRARY_CALLS = {
     "btt_make": (BYTES, WORD, WORD, WORD, BYTES, BYTES),
     "btt_open": (BYTES, BYTES, HANDLE, COUNT),
@@ -45,16 +42,10 @@ def handle_bytes(handle):
 
 def handle_from(data):
     """The handle of the model that these 512 bytes are."""
-    length, *starts = struct.unpack_from("<5Q", data)
-    size, sectors, internal, blocks, lanes, reserved = struct.unpack_from("<6I", data, 40)
-    records = [calls.Record(*words) for words in struct.iter_unpack("<7I", memoryview(data)[64:])]
-    return calls.Handle(length, model.Figures(size, sectors, internal, blocks, lanes, *starts), records, reserved)
-
-
-def listed(crate):
-    """Whether crates.txt lists that crate."""
-    lines = (TOP / "crates.txt").read_text().splitlines()
-    return any(line.split(":")[0].strip() == crate for line in lines if not line.startswith("#"))
+    length, data_start, map_start, flog, copy, size, sectors, internal, blocks, lanes, reserved, *words = HANDLE_FORM.unpack(data)
+    figures = model.Figures(size, sectors, internal, blocks, lanes, data_start, map_start, flog, copy)
+    records = [calls.Record(*words[i : i + 7]) for i in range(0, len(words), 7)]
+    return calls.Handle(length, figures, records, reserved)
 
 
 def must(*command):
@@ -81,7 +72,7 @@ def built():
 def c_types(kinds):
     """The C types of parameters of these kinds."""
     pointer, length = [ctypes.c_void_p], [ctypes.c_size_t]
-    forms = {BYTES: pointer + length, HANDLE: pointer + length * HANDLE_HAS_LENGTH, WORD: [ctypes.c_uint32], COUNT: pointer}
+    forms = {BYTES: pointer + length, HANDLE: pointer, WORD: [ctypes.c_uint32], COUNT: pointer}
     return [c_type for kind in kinds for c_type in forms[kind]]
 
 
@@ -112,7 +103,7 @@ class Library:
                 given.append(ctypes.byref(argument))
             else:
                 given.append(address(argument))
-                if kind is BYTES or HANDLE_HAS_LENGTH:
+                if kind is BYTES:
                     given.append(len(argument))
         return function(*given)
 
@@ -141,7 +132,7 @@ class Library:
 
 
 class ModelLibrary:
-    """The model behind the library's interface, so that the histories can be tried without a library."""
+    """The model behind the library's interface, so that the histories can be tried on mistakes of the model."""
 
     def __init__(self, calls_module=calls, model_module=model):
         self.calls, self.model = calls_module, model_module

@@ -73,6 +73,11 @@ def one_sound_block(rng, arena):
     return arena
 
 
+def past_the_last(rng, f, block):
+    """A number past the last block that ends as `block` does, as 0x20000005 and 0x10005 end as 5."""
+    return block | 1 << rng.choice((29, 16, rng.randrange(f.blocks.bit_length(), 30)))
+
+
 def damaged(rng):
     """A valid arena with one or two words changed in the flog, the map or an info block."""
     arena, f = valid(rng)
@@ -82,8 +87,11 @@ def damaged(rng):
             at = f.flog + 64 * rng.randrange(f.lanes) + 4 * rng.randrange(8)
             struct.pack_into("<I", arena, at, rng.choice((0, 1, 2, 3, 4, f.blocks - 1, f.blocks, rng.getrandbits(32))))
         elif place == "map":
-            word = rng.randrange(4) << 30 | rng.choice((0, rng.randrange(f.blocks), f.blocks))
-            struct.pack_into("<I", arena, f.map + 4 * rng.randrange(f.sectors), word)
+            sector = rng.randrange(f.sectors)
+            at = f.map + 4 * sector
+            block = model.block_of(sector, *struct.unpack_from("<I", arena, at))
+            low = rng.choice((0, rng.randrange(f.blocks), f.blocks, past_the_last(rng, f, block)))
+            struct.pack_into("<I", arena, at, rng.randrange(4) << 30 | low)
         elif place == "info":
             arena[rng.choice((0, len(arena) - 4096)) + rng.randrange(4096)] ^= 1 << rng.randrange(8)
         elif place == "figure":

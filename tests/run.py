@@ -52,16 +52,13 @@ def check_running_cases():
     """What is wrong with the text of cases 9 and 10, as lines."""
     written = running_cases.text()
     wrong = ["runs: the paper has %r" % line for line in running_cases.not_as_the_paper(written)]
-    if library.listed("runs") and (running_cases.RUNS / "stdout").read_text() != written:
+    if (running_cases.RUNS / "stdout").read_text() != written:
         wrong.append("runs: the stored text is not the model's")
     return wrong
 
 
 def check_histories():
-    """What is wrong with the library's calls, as lines; skipped only while there is no crate btt."""
-    if not library.listed("btt"):
-        print("tests: no crate btt is listed, so no histories are run")
-        return []
+    """What is wrong with the library's calls, as lines."""
     lib = library.built()
     began = time.process_time()
     notes, last, fault = histories.run(lib, HISTORIES)

@@ -1,10 +1,9 @@
 """What the program `runs` writes: cases 9 and 10, worked out by the model of the calls.
 
-Run as a program it writes the text to crates/runs/stdout, or shows it while there is no such crate.
+Run as a program it writes the text to crates/runs/stdout.
 """
 import pathlib
 import struct
-import sys
 
 import calls
 import model
@@ -109,7 +108,4 @@ def not_as_the_paper(written):
 
 
 if __name__ == "__main__":
-    if RUNS.is_dir():
-        (RUNS / "stdout").write_text(text())
-    else:
-        sys.stdout.write(text())
+    (RUNS / "stdout").write_text(text())

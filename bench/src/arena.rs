@@ -1,22 +1,16 @@
 //! Arenas of 16 MiB in memory, each at an address that is a multiple of 4,096.
 use crate::calls::Calls;
-use crate::handle::Handle;
-use crate::library::{make, Library};
+use crate::library::Library;
+use btt::{Arena, Geometry, Handle, Identifiers};
 use std::ops::{Deref, DerefMut};
 use std::slice;
 
 pub const LENGTH: usize = 16_777_216;
 pub const LANES: u32 = 4;
 
-/// A sector size, and the most sectors of that size that 16 MiB hold with four lanes.
-#[derive(Clone, Copy)]
-pub struct Kind {
-    pub size: u32,
-    pub sectors: u32,
-}
-
-pub const LARGE: Kind = Kind { size: 4096, sectors: 4085 };
-pub const SMALL: Kind = Kind { size: 512, sectors: 32_484 };
+/// Of each sector size the most sectors that 16 MiB hold with four lanes.
+pub const LARGE: Geometry = Geometry { size: 4096, sectors: 4085, lanes: LANES };
+pub const SMALL: Geometry = Geometry { size: 512, sectors: 32_484, lanes: LANES };
 
 #[repr(C, align(4096))]
 #[derive(Clone, Copy)]
@@ -61,22 +55,21 @@ pub fn sector_bytes(size: u32, seed: u32) -> Pages {
 }
 
 /// An arena as making leaves it.
-pub fn fresh(kind: Kind) -> Pages {
+pub fn fresh(geometry: Geometry) -> Pages {
     let mut arena = Pages::zeroes(LENGTH);
-    let answer = make(&mut arena, kind.size, kind.sectors, LANES, [b"first identifier", b"other identifier"]);
-    assert_eq!(answer, 0, "making");
+    Arena::new(&mut arena).expect("a page is aligned").make(geometry, Identifiers::ZEROES).expect("making");
     arena
 }
 
 /// An arena whose sectors are all written once, its lanes in turn.
-pub fn written(kind: Kind) -> Pages {
-    let mut arena = fresh(kind);
+pub fn written(geometry: Geometry) -> Pages {
+    let mut arena = fresh(geometry);
     let mut handle = Handle::default();
-    let mut work = vec![0; (kind.sectors + LANES) as usize];
+    let mut work = vec![0; (geometry.sectors + LANES) as usize];
     let mut answers = Library::open(&mut arena, &mut work, &mut handle, &mut 0);
-    for sector in 0..kind.sectors {
-        let bytes = sector_bytes(kind.size, sector);
-        answers |= Library::write(&mut arena, &mut handle, sector % LANES, sector, &bytes[..kind.size as usize]);
+    for sector in 0..geometry.sectors {
+        let bytes = sector_bytes(geometry.size, sector);
+        answers |= Library::write(&mut arena, &mut handle, sector % LANES, sector, &bytes[..geometry.size as usize]);
     }
     assert_eq!(answers, 0, "writing every sector");
     arena

@@ -1,6 +1,5 @@
-//! The calls that are timed, each giving document 01's number, so that the library and the plain program are driven by the same loops.
-use crate::handle::Handle;
-use crate::plain::{self, Refusal};
+//! The calls that are timed, each giving its answer's number, so that the library and the plain program are driven by the same loops.
+use btt::{Answer, Handle, INFO_SIZE};
 
 pub trait Calls {
     fn info_block(arena: &[u8]) -> (u64, u64);
@@ -13,18 +12,18 @@ pub trait Calls {
 
 pub struct Plain;
 
-fn number(answer: Result<(), Refusal>) -> u32 {
-    answer.map_or_else(|refusal| refusal as u32, |()| 0)
+fn number(result: Result<(), Answer>) -> u32 {
+    result.map_or_else(Answer::number, |()| 0)
 }
 
 impl Calls for Plain {
     fn info_block(arena: &[u8]) -> (u64, u64) {
-        plain::info_block(arena)
+        plain::info_block(arena).map_or((0, 0), |at| (at as u64, INFO_SIZE as u64))
     }
 
     fn open(arena: &mut [u8], work: &mut [u8], handle: &mut Handle, mended: &mut u32) -> u32 {
         let opened = plain::open(arena, work);
-        (*handle, *mended) = opened.unwrap_or_default();
+        (*handle, *mended) = opened.map_or((Handle::default(), 0), |opened| (opened.handle, opened.mended));
         number(opened.map(|_| ()))
     }
 

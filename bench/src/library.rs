@@ -1,23 +1,9 @@
 //! The proved library through its C interface, as host/rust declares it.
 use crate::calls::Calls;
-use crate::handle::Handle;
-use btt::sys::{btt_info_block, btt_make, btt_open, btt_read, btt_start, btt_step, btt_write};
+use btt::sys::{btt_info_block, btt_open, btt_read, btt_start, btt_step, btt_write};
+use btt::Handle;
 
 // In each call the references are valid for their lengths and lie apart, which is all that btt.h asks of memory.
-
-/// The plain program's handle has the same 512 bytes.
-fn here(handle: &Handle) -> *const btt::Handle {
-    (&raw const *handle).cast()
-}
-
-fn there(handle: &mut Handle) -> *mut btt::Handle {
-    (&raw mut *handle).cast()
-}
-
-/// Makes an arena.
-pub fn make(arena: &mut [u8], size: u32, sectors: u32, lanes: u32, [first, second]: [&[u8; 16]; 2]) -> u32 {
-    unsafe { btt_make(arena.as_mut_ptr(), arena.len(), size, sectors, lanes, first.as_ptr(), 16, second.as_ptr(), 16) }
-}
 
 pub struct Library;
 
@@ -29,22 +15,22 @@ impl Calls for Library {
     }
 
     fn open(arena: &mut [u8], work: &mut [u8], handle: &mut Handle, mended: &mut u32) -> u32 {
-        unsafe { btt_open(arena.as_mut_ptr(), arena.len(), work.as_mut_ptr(), work.len(), there(handle), mended) }
+        unsafe { btt_open(arena.as_mut_ptr(), arena.len(), work.as_mut_ptr(), work.len(), handle, mended) }
     }
 
     fn read(arena: &[u8], handle: &Handle, sector: u32, buffer: &mut [u8]) -> u32 {
-        unsafe { btt_read(arena.as_ptr(), arena.len(), here(handle), sector, buffer.as_mut_ptr(), buffer.len()) }
+        unsafe { btt_read(arena.as_ptr(), arena.len(), handle, sector, buffer.as_mut_ptr(), buffer.len()) }
     }
 
     fn start(arena: &[u8], handle: &mut Handle, lane: u32, sector: u32) -> u32 {
-        unsafe { btt_start(arena.as_ptr(), arena.len(), there(handle), lane, sector) }
+        unsafe { btt_start(arena.as_ptr(), arena.len(), handle, lane, sector) }
     }
 
     fn step(arena: &mut [u8], handle: &mut Handle, lane: u32, buffer: &[u8]) -> u32 {
-        unsafe { btt_step(arena.as_mut_ptr(), arena.len(), there(handle), lane, buffer.as_ptr(), buffer.len()) }
+        unsafe { btt_step(arena.as_mut_ptr(), arena.len(), handle, lane, buffer.as_ptr(), buffer.len()) }
     }
 
     fn write(arena: &mut [u8], handle: &mut Handle, lane: u32, sector: u32, buffer: &[u8]) -> u32 {
-        unsafe { btt_write(arena.as_mut_ptr(), arena.len(), there(handle), lane, sector, buffer.as_ptr(), buffer.len()) }
+        unsafe { btt_write(arena.as_mut_ptr(), arena.len(), handle, lane, sector, buffer.as_ptr(), buffer.len()) }
     }
 }

@@ -1,14 +1,12 @@
 //! The library through its C interface, plain Rust and a plain copy of the same bytes, timed side by side in one run.
 mod arena;
 mod calls;
-mod handle;
 mod library;
 mod measure;
-mod plain;
 mod rows;
-mod same;
 
-use arena::{fresh, written, Kind, LARGE, SMALL};
+use arena::{fresh, written, LARGE, SMALL};
+use btt::Geometry;
 use rows::Bench;
 use std::fs;
 
@@ -19,9 +17,9 @@ fn processor() -> String {
     name.trim_start_matches([' ', '\t', ':']).to_string()
 }
 
-fn kind_rows(kind: Kind, size: &str) {
-    rows::opening(&mut Bench::new(kind, fresh(kind)), &format!("opening, sectors of {size}, none written"));
-    let mut bench = Bench::new(kind, written(kind));
+fn rows_of(geometry: Geometry, size: &str) {
+    rows::opening(&mut Bench::new(geometry, fresh(geometry)), &format!("opening, sectors of {size}, none written"));
+    let mut bench = Bench::new(geometry, written(geometry));
     rows::opening(&mut bench, &format!("opening, sectors of {size}, all written"));
     rows::whole_writes(&mut bench, &format!("whole write of {size} bytes"));
     rows::stepped_writes(&mut bench, &format!("stepped write of {size} bytes"), false);
@@ -30,14 +28,11 @@ fn kind_rows(kind: Kind, size: &str) {
 }
 
 fn main() {
-    for kind in [LARGE, SMALL] {
-        same::assert_same(kind);
-    }
-    println!("{}. Library and plain Rust gave the same answers, arenas, handles, work buffers and sectors.\n", processor());
+    println!("{}. After every row library and plain Rust have left the same arenas and handles.\n", processor());
     println!("| One operation | Library | Plain Rust | Copy | Library / plain | Library / copy |");
     println!("|---|---|---|---|---|---|");
-    kind_rows(LARGE, "4,096");
-    kind_rows(SMALL, "512");
+    rows_of(LARGE, "4,096");
+    rows_of(SMALL, "512");
     let mut bench = Bench::new(LARGE, fresh(LARGE));
     rows::info_blocks(&mut bench, "info block that counts, one block summed", true);
     rows::info_blocks(&mut bench, "info block that counts, two blocks summed", false);

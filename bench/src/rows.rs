@@ -1,10 +1,10 @@
 //! The rows of the table. The library and the plain program have an arena each, in the same state, and change arenas at every round;
 //! the copy has room of its own.
-use crate::arena::{sector_bytes, Kind, Pages, LANES, LENGTH};
+use crate::arena::{sector_bytes, Pages, LANES, LENGTH};
 use crate::calls::{Calls, Plain};
-use crate::handle::Handle;
 use crate::library::Library;
 use crate::measure::{measure, Side, Times};
+use btt::{Geometry, Handle};
 use std::env;
 use std::hint::black_box;
 
@@ -24,22 +24,22 @@ struct Opened {
 
 /// Two arenas in the same state, room for the copy, and a sector buffer.
 pub struct Bench {
-    kind: Kind,
+    geometry: Geometry,
     two: [Opened; 2],
     room: Pages,
     buffer: Pages,
 }
 
 impl Bench {
-    pub fn new(kind: Kind, arena: Pages) -> Bench {
-        let mut one = Opened { arena, handle: Handle::default(), work: Pages::zeroes((kind.sectors + LANES) as usize) };
+    pub fn new(geometry: Geometry, arena: Pages) -> Bench {
+        let mut one = Opened { arena, handle: Handle::default(), work: Pages::zeroes((geometry.sectors + LANES) as usize) };
         one.open::<Library>(1);
-        Bench { kind, two: [one.clone(), one], room: Pages::zeroes(LENGTH), buffer: sector_bytes(kind.size, 12_345) }
+        Bench { geometry, two: [one.clone(), one], room: Pages::zeroes(LENGTH), buffer: sector_bytes(geometry.size, 12_345) }
     }
 
     /// The arena that is a side's in a round, the sector buffer, and the copy's room.
     fn own(&mut self, side: Side, round: usize) -> (&mut Opened, &mut [u8], &mut [u8]) {
-        (&mut self.two[(side as usize + round) % 2], &mut self.buffer[..self.kind.size as usize], &mut self.room)
+        (&mut self.two[(side as usize + round) % 2], &mut self.buffer[..self.geometry.size as usize], &mut self.room)
     }
 
     /// Prints a row, once it is seen that both sides left the same arena and handle.
@@ -69,7 +69,7 @@ impl Opened {
         for sector in sectors {
             let lane = sector % LANES;
             let mut answers = C::start(&self.arena, &mut self.handle, lane, sector);
-            for _ in 0..self.handle.size / 4 + 5 {
+            for _ in 0..self.handle.steps() {
                 answers |= C::step(&mut self.arena, &mut self.handle, lane, bytes);
             }
             assert_eq!(answers, 0, "a stepped write");
@@ -122,7 +122,7 @@ pub fn whole_writes(bench: &mut Bench, what: &str) {
     if !asked(what) {
         return;
     }
-    let Kind { size, sectors } = bench.kind;
+    let Geometry { size, sectors, .. } = bench.geometry;
     let measured = measure(150, sectors, |side, round| {
         let (one, bytes, room) = bench.own(side, round);
         match side {
@@ -140,8 +140,8 @@ pub fn stepped_writes(bench: &mut Bench, what: &str, per_step: bool) {
         return;
     }
     const BATCH: u32 = 16;
-    let Kind { size, sectors } = bench.kind;
-    let steps = size / 4 + 5;
+    let Geometry { size, sectors, .. } = bench.geometry;
+    let steps = bench.two[0].handle.steps();
     let operations = if per_step { BATCH * steps } else { BATCH };
     let measured = measure(150, operations, |side, round| {
         let (one, bytes, room) = bench.own(side, round);
@@ -159,7 +159,7 @@ pub fn stepped_writes(bench: &mut Bench, what: &str, per_step: bool) {
     bench.print(&measured, what);
 }
 
-/// Copies a sector, whole or in words of 4 bytes, and then once more the first five words, as many as a write logs and maps.
+/// Copies a sector, whole or in words of 4 bytes, and then once more the first five words, as many as a write puts into flog and map.
 fn copy_sector(into: &mut [u8], from: &[u8], by_words: bool) {
     if !by_words {
         return copy(into, from);
@@ -174,7 +174,7 @@ pub fn reads(bench: &mut Bench, what: &str) {
     if !asked(what) {
         return;
     }
-    let Kind { size, sectors } = bench.kind;
+    let Geometry { size, sectors, .. } = bench.geometry;
     let measured = measure(150, sectors, |side, round| {
         let (one, buffer, room) = bench.own(side, round);
         match side {

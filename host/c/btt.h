@@ -8,6 +8,8 @@
  *   - no other thread changes what a call was given until the call is back, and none reads what the call may change.
  * Nothing else is asked: every input is answered, by 0 or by a number of enum btt_answer, and the first that applies in the order
  * that the call's comment gives is the answer. The library keeps nothing between calls and needs only memcpy, memmove and memset.
+ *
+ * What stands in an arena, and when exactly each answer is given, is told in docs/FORMAT.md.
  */
 #ifndef BTT_H
 #define BTT_H

@@ -1,5 +1,3 @@
-pub mod Accepted
-pub mod Ends
-pub mod Opened
-pub mod Opening
 pub mod Records
+pub mod Cut
+pub mod Opened

@@ -1,20 +1,25 @@
 // Opening and cut opening.
 use format::numbers::LaneNo;
-use judge::opening::judge_info;
-use judge::opening::judge_map;
+use judge::opening::judge;
 use lanes::found_lane;
 use layout::Figures;
 use layout::MAX_LANES;
+use layout::Told;
+use layout::alone;
 use machine::answer::Answer;
 use machine::handle::Handle;
 use machine::handle::no_handle;
 use machine::lane::Lane;
 use mend::mend;
 ghost use mathlib.Core.Path.{_≡_};
-ghost use Rattle.machine.specs.Opening.{openOf, cutOpenOf};
+ghost use lib.ListN.{length};
+ghost use Rattle.layout.specs.Told.{alone};
+ghost use Rattle.machine.specs.state.Handle.{ToldOk};
+ghost use Rattle.machine.specs.state.Packed.{packedUp};
+ghost use Rattle.machine.specs.calls.Opening.{openNumber, openOf, cutOpenOf};
+ghost use Rattle.lanes.specs.Fit.{AllFit};
 ghost use Rattle.judge.specs.Judge.{judgedFigures};
-ghost use Rattle.arena.specs.Calls.{openGave, cutGave, handleRead};
-ghost use Rattle.mend.specs.Mend.{Mendable};
+ghost use Rattle.arena.specs.Calls.{packedOpening, openGave, cutGave, handleRead};
 
 // What opening gives: the answer, the number of pending lanes as found, and the handle (all zeroes on a refusal).
 pub struct Opened {
@@ -30,56 +35,38 @@ pub struct CutOpened {
 }
 
 // A cut opening with the figures that it judged.
-struct Cut {
+struct Mending {
     opened: CutOpened,
     figures: Figures,
 }
 
-// Judges all, then makes the first k mending stores, or all if there are fewer.
-fn judge_and_mend(arena: &mut [u8], work: &mut [u8], k: u32) -> Cut
-    ensures { λ r. ⌜ cutGave (r .opened) (now (arena .exit)) (now (work .exit)) ≡ cutOpenOf (now (arena .entry)) (now (work .entry)) k ⌝ }
-    ensures { λ r. ⌜ r .figures ≡ judgedFigures (now (arena .entry)) ⌝ }
+// Judges all as it is told, then makes the first k mending stores, or all if there are fewer.
+fn judge_and_mend(arena: &mut [u8], told: Told, work: &mut [u8], k: u32) -> Mending
+    requires { ⌜ ToldOk told ⌝ }
+    ensures { λ r. ⌜ cutGave (r .opened) (now (arena .exit)) (now (work .exit))
+        ≡ cutOpenOf told (now (arena .entry)) (now (work .entry)) k ⌝ }
+    ensures { λ r. let n = openNumber told (now (arena .entry)) (length (now (work .entry))) in
+        ⌜ r .figures ≡ judgedFigures n (now (arena .entry)) ⌝ }
 {
-    let judged = judge_info(&arena[..]);
+    let judged = judge(&arena[..], told, work);
     let f = judged.figures;
-    let info = judged.answer;
-    if !info.is_done() {
+    let answer = judged.answer;
+    if !answer.is_done() {
         let opened = CutOpened {
-            answer: info,
+            answer: answer,
             mended: 0,
         };
-        return Cut {
+        return Mending {
             opened: opened,
             figures: f,
         };
     }
-    if work.len() < f.blocks as usize {
-        let opened = CutOpened {
-            answer: Answer::ShortWorkBuffer,
-            mended: 0,
-        };
-        return Cut {
-            opened: opened,
-            figures: f,
-        };
-    }
-    let map = judge_map(&arena[..], f, work);
-    if !map.is_done() {
-        let opened = CutOpened {
-            answer: map,
-            mended: 0,
-        };
-        return Cut {
-            opened: opened,
-            figures: f,
-        };
-    }
-    let mended = mend(arena, f, k);
+    let mended = mend(arena, f, told.distance, k);
     let opened = CutOpened {
-        answer: map,
+        answer: answer,
         mended: mended,
     };
-    Cut {
+    Mending {
         opened: opened,
         figures: f,
     }
@@ -87,22 +74,22 @@ fn judge_and_mend(arena: &mut [u8], work: &mut [u8], k: u32) -> Cut
 
 // A cut opening: told k, it is refused as opening is, and else makes the first k of opening's stores.
 pub fn cut_open(arena: &mut [u8], work: &mut [u8], k: u32) -> CutOpened
-    ensures { λ r. ⌜ cutGave r (now (arena .exit)) (now (work .exit)) ≡ cutOpenOf (now (arena .entry)) (now (work .entry)) k ⌝ }
+    ensures { λ r. ⌜ cutGave r (now (arena .exit)) (now (work .exit)) ≡ cutOpenOf alone (now (arena .entry)) (now (work .entry)) k ⌝ }
 {
-    let c = judge_and_mend(arena, work, k);
-    c.opened
+    let m = judge_and_mend(arena, alone(), work, k);
+    m.opened
 }
 
 // The handle of an opened arena, read off its flog.
-fn handle_of(a: &[u8], f: Figures) -> Handle
-    requires { ⌜ Mendable f (now a) ⌝ }
-    ensures { λ r. ⌜ r ≡ handleRead f (now (a .entry)) ⌝ }
+fn handle_of(a: &[u8], f: Figures, d: u32) -> Handle
+    requires { ⌜ AllFit d f (now a) ⌝ }
+    ensures { λ r. ⌜ r ≡ packedUp (handleRead d f (now (a .entry))) ⌝ }
 {
     let none = Lane::none();
     let mut lanes = [none; 16];
     let mut l: u32 = 0;
     while l < f.lanes {
-        let found = found_lane(a, f, LaneNo(l));
+        let found = found_lane(a, f, d, LaneNo(l));
         lanes[l as usize] = found;
         l += 1;
     }
@@ -115,10 +102,12 @@ fn handle_of(a: &[u8], f: Figures) -> Handle
 
 // Opens an arena: judges all, mends the pending lanes through the cut opening, and gives the handle.
 pub fn open(arena: &mut [u8], work: &mut [u8]) -> Opened
-    ensures { λ r. ⌜ openGave r (now (arena .exit)) (now (work .exit)) ≡ openOf (now (arena .entry)) (now (work .entry)) ⌝ }
+    ensures { λ r. ⌜ openGave r (now (arena .exit)) (now (work .exit))
+        ≡ packedOpening (openOf alone (now (arena .entry)) (now (work .entry))) ⌝ }
 {
-    let c = judge_and_mend(arena, work, MAX_LANES);
-    let opened = c.opened;
+    let told = alone();
+    let m = judge_and_mend(arena, told, work, MAX_LANES);
+    let opened = m.opened;
     let answer = opened.answer;
     if !answer.is_done() {
         return Opened {
@@ -130,6 +119,6 @@ pub fn open(arena: &mut [u8], work: &mut [u8]) -> Opened
     Opened {
         answer: answer,
         mended: opened.mended,
-        handle: handle_of(&arena[..], c.figures),
+        handle: handle_of(&arena[..], m.figures, told.distance),
     }
 }

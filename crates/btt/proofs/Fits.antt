@@ -1,31 +1,39 @@
 -- The handle that opening gives fits its bytes: its figures are bounded by the arena's length, and its records are read off words.
-use mathlib.Core.Path.{_≡_}
-use mathlib.Core.Logic.{⊎-elim}
+use mathlib.Core.Path.{_≡_, _∙_}
+use mathlib.Core.Logic.{_≢_, ⊎-elim}
 use mathlib.Core.Bool.{Bool, true, false, cond}
 use mathlib.Core.List.{List}
 use Prim.Native.Nat.{ℕ, _+_, _-_, _≤_, _<_}
 use native.Mathlib.Omega.{arith}
 use native.Mathlib.Decide.{decLt}
 use lib.Dec.{eqb}
-use lib.ListN.{length}
-use borrow.Author.Tests.{eq-eqb, eqb-true, eqb-false}
+use lib.ListN.{length, drop, replicate, length-append, length-drop, length-replicate, List·getD-append}
+use borrow.Author.Tests.{ne-eqb}
 use Rattle.format.specs.Sequence.{successor}
-use Rattle.format.proofs.Tests.{by-bool}
-use Rattle.layout.specs.Figures.{Allowed}
-use Rattle.layout.specs.Place.{layoutOf}
+use Rattle.layout.specs.Figures.{maxLanes, Allowed}
+use Rattle.layout.specs.Told.{alone}
 use Rattle.layout.specs.declared.Figures.{Figures}
-use Rattle.machine.specs.Claims.{HandleAsFound, oldIn, newerIn, sequenceIn, flogByte}
-use Rattle.machine.specs.Handle.{laneAt}
-use Rattle.machine.specs.Lane.{idleLane, noLane}
-use Rattle.machine.specs.Opening.{figuresIn, layoutIn, openNumber, openOf, handleFor}
-use Rattle.machine.specs.Valid.{Small, Valid}
-use Rattle.machine.proofs.Opening.{opening-claim}
-use Rattle.arena.proofs.Records.{records-length}
-use Rattle.handlebytes.specs.Stands.{RecordFits, FiguresFit, HandleFits, Stands}
-use Rattle.handlebytes.proofs.Whole.{encoded-stands, zeroes-stand}
+use Rattle.machine.specs.state.Handle.{Handle, laneAt}
+use Rattle.machine.specs.state.Lane.{noLane}
+use Rattle.machine.specs.state.Packed.{packedUp}
+use Rattle.machine.specs.calls.Opening.{figuresIn, openOf}
+use Rattle.machine.specs.claims.Opening.{HandleAsFound}
+use Rattle.machine.specs.words.InBytes.{Small, oldIn, newerIn, sequenceIn, flogByte}
+use Rattle.machine.specs.words.Records.{Idle}
+use Rattle.machine.specs.words.Valid.{Valid}
+use Rattle.machine.specs.declared.lane.Lane.{Lane}
+use Rattle.machine.proofs.calls.Packing.{packing-claim}
+use Rattle.machine.proofs.opening.Described.{told-alone}
+use Rattle.machine.proofs.opening.Opening.{opening-claim}
+use Rattle.handlebytes.specs.Bytes.{handleBytes}
+use Rattle.handlebytes.specs.Stands.{RecordFits, FiguresFit, HandleFits}
+use Rattle.handlebytes.proofs.Whole.{encoded-stands}
 use Rattle.btt.specs.Calls.{bttOpenOf}
+use Rattle.btt.specs.Host.{HoldsHandle}
 
-pub successor-small : (x : ℕ) → successor x ≤ 3
+-- ---- records that fit
+
+successor-small : (x : ℕ) → successor x ≤ 3
 unfolding successor
 successor-small x = go (eqb x 1) (eqb x 2)
   where
@@ -34,19 +42,29 @@ successor-small x = go (eqb x 1) (eqb x 2)
     go false true = omega arith
     go false false = omega arith
 
-pub idle-fits : (x y z : ℕ) → x < 4294967296 → RecordFits (idleLane x (1 - y) (successor z))
-idle-fits x y z u = record {
-  block = u;
+pub idle-fits : (x y z : ℕ) (r : Lane) → Idle x (1 - y) (successor z) r → x < 4294967296 → RecordFits r
+idle-fits x y z r i u = record {
+  busy = omega (arith, i .busy);
+  block = omega (arith, i .block);
+  half = omega (arith, i .half);
+  sequence = omega (arith, i .sequence, successor-small z);
+  sector = omega (arith, i .sector);
+  old = omega (arith, i .old);
+  made = omega (arith, i .made);
+}
+
+pub no-lane-fits : RecordFits noLane
+no-lane-fits = record {
+  busy = omega arith;
+  block = omega arith;
   half = omega arith;
-  sequence = omega (arith, successor-small z);
+  sequence = omega arith;
   sector = omega arith;
   old = omega arith;
   made = omega arith;
 }
 
-pub no-lane-fits : RecordFits noLane
-no-lane-fits =
-    record { block = omega arith; half = omega arith; sequence = omega arith; sector = omega arith; old = omega arith; made = omega arith }
+-- ---- opening
 
 figures-fit : (f : Figures) (n : ℕ) → Allowed f n → n ≤ 16777216 → FiguresFit f
 figures-fit f n a u =
@@ -64,12 +82,18 @@ figures-fit f n a u =
       copyoff = omega arith;
     }
 
-module _ (a work : List ℕ) (small : Small a) (z : (openOf a work) .number ≡ 0) where
-  found : HandleAsFound a ((openOf a work) .handle)
-  found = opening-claim .handle a work small z
+module _ (a work : List ℕ) (small : Small a) (z : (openOf alone a work) .number ≡ 0) where
+  abbrev h : Handle
+  h = (openOf alone a work) .handle
 
-  valid : Valid a
-  valid = opening-claim .answers a work small .accepts z .0
+  found : HandleAsFound a h
+  found = opening-claim alone told-alone .handle a work small z
+
+  valid : Valid alone a
+  valid = opening-claim alone told-alone .answers a work small .accepts z .0
+
+  few : length (h .lanes) ≤ maxLanes
+  few = omega (arith, found .count, valid .figures .figures .few-lanes)
 
   old-word : (l : ℕ) → oldIn a l < 4294967296
   unfolding oldIn
@@ -77,20 +101,22 @@ module _ (a work : List ℕ) (small : Small a) (z : (openOf a work) .number ≡ 
       let o = flogByte (figuresIn a) l (newerIn a l) 1 in
       omega (arith, small o, small (o + 1), small (o + 2), small (o + 3))
 
-  lane-fits : (l : ℕ) → RecordFits (laneAt ((openOf a work) .handle .lanes) l)
+  lane-fits : (l : ℕ) → RecordFits (laneAt ((packedUp h) .lanes) l)
   lane-fits l = go (decLt l ((figuresIn a) .lanes))
     where
-      go : Dec (l < (figuresIn a) .lanes) → RecordFits (laneAt ((openOf a work) .handle .lanes) l)
-      go (yes u) = rw (found .lanes l u .record-is) (idle-fits (oldIn a l) (newerIn a l) (sequenceIn a l) (old-word l))
-      go (no u) = rw (found .past l (omega arith)) no-lane-fits
+      go : Dec (l < (figuresIn a) .lanes) → RecordFits (laneAt ((packedUp h) .lanes) l)
+      go (yes u) =
+          let v : l < length (h .lanes) = omega (arith, found .count) in
+          rw (List·getD-append (h .lanes) (drop (length (h .lanes)) (replicate maxLanes noLane)) noLane l v)
+          (idle-fits (oldIn a l) (newerIn a l) (sequenceIn a l) _ (found .lanes l u .idle) (old-word l))
+      go (no u) = rw (packing-claim .zero a work l (rw (found .figures) (omega arith))) no-lane-fits
 
-  records-are : length ((openOf a work) .handle .lanes) ≡ 16
-  unfolding openOf handleFor
+  records-are : length ((packedUp h) .lanes) ≡ maxLanes
   records-are =
-      rw (eq-eqb (openNumber a (length work)) 0 z)
-      (records-length (layoutIn a) a ((layoutIn a) .N) (unfold layoutOf in (valid .figures .figures .few-lanes)))
+      length-append (h .lanes) (drop (length (h .lanes)) (replicate maxLanes noLane))
+      ∙ omega (arith, few, length-drop (length (h .lanes)) (replicate maxLanes noLane), length-replicate maxLanes noLane)
 
-  opened-fits : HandleFits ((openOf a work) .handle)
+  opened-fits : HandleFits (packedUp h)
   opened-fits = record {
     total = rw (found .size) (omega (arith, valid .size .most));
     figures = rw (found .figures) (figures-fit (figuresIn a) (length a) (valid .figures .figures) (valid .size .most));
@@ -98,9 +124,12 @@ module _ (a work : List ℕ) (small : Small a) (z : (openOf a work) .number ≡ 
     lanes = λ l u. lane-fits l;
   }
 
-pub opened-stands : (a work : List ℕ) → Small a → Stands ((bttOpenOf a work) .handle) ((openOf a work) .handle)
+  pub opened-holds : HoldsHandle ((bttOpenOf a work) .handle) h
+  unfolding bttOpenOf
+  opened-holds =
+      let s = encoded-stands (packedUp h) opened-fits in
+      rw z (record { size = s .size; small = s .small; is = rw (s .is) (packing-claim .opened a work z) })
+
+pub refused-zeroes : (a work : List ℕ) → (openOf alone a work) .number ≢ 0 → (bttOpenOf a work) .handle ≡ replicate handleBytes 0
 unfolding bttOpenOf
-opened-stands a work small =
-    by-bool (eqb ((openOf a work) .number) 0) (Stands ((bttOpenOf a work) .handle) ((openOf a work) .handle))
-    (λ t. rw t (encoded-stands ((openOf a work) .handle) (opened-fits a work small (eqb-true _ _ t))))
-    (λ t. rw (t, opening-claim .refused a work (eqb-false _ _ t) .handle) zeroes-stand)
+refused-zeroes a work n = rw (ne-eqb ((openOf alone a work) .number) 0 n)

@@ -1,7 +1,7 @@
 pub mod Rules
 pub mod Laws
-pub mod Infos
 pub mod Fits
 pub mod Same
 pub mod Shown
 pub mod Listing
+pub mod Demands

@@ -1,15 +1,18 @@
--- A host's list is the machine's, by recursion on the list: each call is the machine's, and what it leaves stands for what the machine's
--- leaves. An opening needs an arena of bytes: every store of a step and of an opening leaves bytes below 256.
+-- A host's list is the machine's: each call is the machine's, and what it leaves stands for what the machine's leaves, so the lists go side
+-- by side. An opening needs an arena of bytes: every store of a step and of an opening leaves bytes below 256.
 use mathlib.Core.Path.{_≡_, refl, ap}
-use mathlib.Core.List.{List, [], _∷_}
+use mathlib.Core.List.{List}
 use Prim.Native.Nat.{ℕ, zero, suc}
 use lib.Dec.{eqb}
 use borrow.Author.Tests.{eqb-true, eqb-false}
 use Rattle.words.proofs.Laws.{putWord-bytes}
 use Rattle.format.proofs.Tests.{by-bool}
-use Rattle.layout.specs.Place.{layoutOf}
-use Rattle.machine.specs.DemandTwo.{openedFrom}
-use Rattle.machine.specs.History.{
+use Rattle.layout.specs.Told.{alone}
+use Rattle.machine.specs.state.Handle.{Handle, laidOut}
+use Rattle.machine.specs.state.Lane.{writeStores}
+use Rattle.machine.specs.calls.Opening.{openOf}
+use Rattle.machine.specs.calls.Writing.{Outcome, startOf, stepNumber, stepOf, stepsOf, writeNumber, writeOf}
+use Rattle.machine.specs.calls.History.{
   Call,
   read,
   start,
@@ -20,53 +23,47 @@ use Rattle.machine.specs.History.{
   outcomeState,
   openedState,
   after,
-  run,
-  replies,
+  reply,
   Event,
   called,
   opened,
   afterEvent,
   replyEvent,
-  runEvents,
-  replyEvents,
+  openedFrom,
 }
-use Rattle.machine.specs.Lane.{writeStores}
-use Rattle.machine.specs.Opening.{openOf}
-use Rattle.machine.specs.Valid.{Small}
-use Rattle.machine.specs.Writing.{Outcome, startOf, stepNumber, stepOf, stepsOf, writeNumber, writeOf}
-use Rattle.machine.specs.declared.handle.Handle.{Handle}
-use Rattle.machine.proofs.Calls.{held-open}
-use Rattle.machine.proofs.Opening.{opening-claim}
-use Rattle.machine.proofs.Histories.{opening-cases, held-small}
-use Rattle.writing.proofs.Rules.{handle-fit}
+use Rattle.machine.specs.words.InBytes.{Small}
+use Rattle.machine.proofs.rules.Runs.{runs-related, says-alike}
+use Rattle.machine.proofs.calls.Accepted.{step-found}
+use Rattle.machine.proofs.calls.Running.{handle-fit}
+use Rattle.machine.proofs.opening.Described.{told-alone}
+use Rattle.machine.proofs.opening.Opening.{opening-claim}
+use Rattle.machine.proofs.invariant.Held.{held-open}
+use Rattle.machine.proofs.invariant.Histories.{opening-cases, held-small}
 use Rattle.btt.specs.Calls.{HostOutcome, bttOpenOf}
-use Rattle.btt.specs.Host.{Same}
+use Rattle.btt.specs.Host.{SameOutcome}
 use Rattle.btt.specs.HostList.{
   HostState,
   outcomeHost,
   openedHost,
   hostAfter,
-  hostRun,
-  hostReplies,
+  hostReply,
   hostAfterEvent,
   hostReplyEvent,
-  hostRunEvents,
-  hostReplyEvents,
   StandsFor,
   SameCalls,
   SameEvents,
 }
-use Rattle.btt.proofs.Rules.{two-passed}
-use Rattle.btt.proofs.Fits.{opened-stands}
+use Rattle.btt.proofs.Fits.{opened-holds}
 use Rattle.btt.proofs.Same.{read-same, start-same, step-same, write-same}
 
 -- ---- the arena stays bytes
 
 step-small : (a : List ℕ) (h : Handle) (l : ℕ) (buffer : List ℕ) → Small a → Small ((stepOf a h l buffer) .arena)
-unfolding stepOf stepNumber
+unfolding stepOf
 step-small a h l buffer small =
     by-bool (eqb (stepNumber a h l buffer) 0) (Small ((stepOf a h l buffer) .arena))
-    (λ t. rw t (putWord-bytes a _ _ (record { words = handle-fit h _ (two-passed a h l _ (eqb-true _ _ t) .0) .whole; small = small }) .small))
+    (λ t. let f = step-found a h l buffer (eqb-true _ _ t) in
+    rw t (putWord-bytes a _ _ (record { words = handle-fit h _ (f .handle) .whole; small = small }) .small))
     (λ t. rw t small)
 
 steps-small : (n : ℕ) (a : List ℕ) (h : Handle) (l : ℕ) (buffer : List ℕ) → Small a → Small ((stepsOf n a h l buffer) .arena)
@@ -84,72 +81,88 @@ call-small x (step l buffer) small = step-small (x .arena) (x .handle) l buffer 
 call-small x (write l s buffer) small =
     let o = startOf (x .arena) (x .handle) l s in
     by-bool (eqb (writeNumber (x .arena) (x .handle) l s buffer) 0) (Small ((writeOf (x .arena) (x .handle) l s buffer) .arena))
-    (λ t. rw t (steps-small (writeStores (layoutOf (x .handle .figures))) (x .arena) (o .handle) l buffer small))
+    (λ t. rw t (steps-small (writeStores (laidOut (x .handle))) (x .arena) (o .handle) l buffer small))
     (λ t. rw t small)
 
-event-small : (x : State) (e : Event) → Small (x .arena) → Small ((afterEvent x e) .arena)
+event-small : (x : State) (e : Event) → Small (x .arena) → Small ((afterEvent alone x e) .arena)
 event-small x (called c) small = call-small x c small
 event-small x (opened work) small =
-    opening-cases x work (λ y. Small (y .arena))
-    (λ z. held-small (openedState (openOf (x .arena) work)) (held-open (x .arena) work small z)) small
+    let o = openedState (openOf alone (x .arena) work) in
+    opening-cases alone told-alone x work (λ y. Small (y .arena))
+    (λ z. held-small alone told-alone o (held-open alone told-alone (x .arena) work small z)) small
 
--- ---- one call or opening
-
-record SameEvent (y : HostState) (x : State) (e : Event) : Type 0 where
-  replies : hostReplyEvent y e ≡ replyEvent x e
-  leaves : StandsFor (hostAfterEvent y e) (afterEvent x e)
+-- ---- one call
 
 -- what a call on a lane leaves
-outcome-same : (o : HostOutcome) (m : Outcome) → Same o m → StandsFor (outcomeHost o) (outcomeState m)
+outcome-same : (o : HostOutcome) (m : Outcome) → SameOutcome o m → StandsFor (outcomeHost o) (outcomeState m)
 outcome-same o m p = record { arena = p .arena; handle = p .handle }
 
-call-same : (y : HostState) (x : State) (c : Call) → StandsFor y x → SameEvent y x (called c)
-call-same y x (read s buffer) k =
-    record { replies = rw (k .arena, read-same (x .arena) (y .handle) (x .handle) s buffer (k .handle)); leaves = k }
-call-same y x (start l s) k =
-    let p = start-same (x .arena) (y .handle) (x .handle) l (k .handle) s in
-    record { replies = rw (k .arena) (ap justNumber (p .number)); leaves = rw (k .arena) (outcome-same _ _ p) }
-call-same y x (step l buffer) k =
-    let p = step-same (x .arena) (y .handle) (x .handle) l (k .handle) buffer in
-    record { replies = rw (k .arena) (ap justNumber (p .number)); leaves = rw (k .arena) (outcome-same _ _ p) }
-call-same y x (write l s buffer) k =
-    let p = write-same (x .arena) (y .handle) (x .handle) l (k .handle) s buffer in
-    record { replies = rw (k .arena) (ap justNumber (p .number)); leaves = rw (k .arena) (outcome-same _ _ p) }
+call-leaves : (y : HostState) (x : State) (c : Call) → StandsFor y x → StandsFor (hostAfter y c) (after x c)
+call-leaves y x (read s buffer) k = k
+call-leaves y x (start l s) k = rw (k .arena) (outcome-same _ _ (start-same (x .arena) (y .handle) (x .handle) l (k .handle) s))
+call-leaves y x (step l buffer) k = rw (k .arena) (outcome-same _ _ (step-same (x .arena) (y .handle) (x .handle) l (k .handle) buffer))
+call-leaves y x (write l s buffer) k =
+    rw (k .arena) (outcome-same _ _ (write-same (x .arena) (y .handle) (x .handle) l (k .handle) s buffer))
 
-pub first-same : (a work : List ℕ) → Small a → StandsFor (openedHost (bttOpenOf a work)) (openedFrom a work)
+call-replies : (y : HostState) (x : State) (c : Call) → StandsFor y x → hostReply y c ≡ reply x c
+call-replies y x (read s buffer) k = rw (k .arena, read-same (x .arena) (y .handle) (x .handle) s buffer (k .handle))
+call-replies y x (start l s) k = rw (k .arena) (ap justNumber (start-same (x .arena) (y .handle) (x .handle) l (k .handle) s .number))
+call-replies y x (step l buffer) k =
+    rw (k .arena) (ap justNumber (step-same (x .arena) (y .handle) (x .handle) l (k .handle) buffer .number))
+call-replies y x (write l s buffer) k =
+    rw (k .arena) (ap justNumber (write-same (x .arena) (y .handle) (x .handle) l (k .handle) s buffer .number))
+
+-- ---- one opening
+
+pub first-same : (a work : List ℕ) → Small a → (openOf alone a work) .number ≡ 0
+    → StandsFor (openedHost (bttOpenOf a work)) (openedFrom alone a work)
 unfolding bttOpenOf
-first-same a work small = record { arena = refl; handle = opened-stands a work small }
+first-same a work small z = record { arena = refl; handle = opened-holds a work small z }
+
+-- a host has what stands for the machine's, and the arena is bytes
+abbrev Beside : HostState → State → Type 0
+Beside y x = StandsFor y x × Small (x .arena)
 
 -- an accepted opening's bytes are the latest, and a refused one leaves the arena and the latest as they were
-opening-same : (y : HostState) (x : State) (work : List ℕ) → StandsFor y x → Small (x .arena) → SameEvent y x (opened work)
+opening-leaves : (y : HostState) (x : State) (work : List ℕ) → Beside y x
+    → StandsFor (hostAfterEvent y (opened work)) (afterEvent alone x (opened work))
 unfolding bttOpenOf
-opening-same y x work k small = record {
-  replies = rw (k .arena);
-  leaves =
-      rw (k .arena)
-      (by-bool (eqb ((openOf (x .arena) work) .number) 0) _
-      (λ t. rw t (record { arena = refl; handle = rw t at (opened-stands (x .arena) work small) }))
-      (λ t. rw t (record { arena = opening-claim .refused (x .arena) work (eqb-false _ _ t) .arena; handle = k .handle })));
-}
+opening-leaves y x work k =
+    rw (k .0 .arena)
+    (by-bool (eqb ((openOf alone (x .arena) work) .number) 0) _
+    (λ t. rw t (record { arena = refl; handle = rw t at (opened-holds (x .arena) work (k .1) (eqb-true _ _ t)) }))
+    (λ t. rw t (record {
+      arena = opening-claim alone told-alone .refused (x .arena) work (eqb-false _ _ t) .arena;
+      handle = k .0 .handle;
+    })))
 
-event-same : (y : HostState) (x : State) (e : Event) → StandsFor y x → Small (x .arena) → SameEvent y x e
-event-same y x (called c) k small = call-same y x c k
-event-same y x (opened work) k small = opening-same y x work k small
+event-kept : (y : HostState) (x : State) (e : Event) → Beside y x → Beside (hostAfterEvent y e) (afterEvent alone x e)
+event-kept y x (called c) k = (call-leaves y x c (k .0), event-small x (called c) (k .1))
+event-kept y x (opened work) k = (opening-leaves y x work k, event-small x (opened work) (k .1))
+
+event-replies : (y : HostState) (x : State) (e : Event) → Beside y x → hostReplyEvent y e ≡ replyEvent alone x e
+unfolding bttOpenOf
+event-replies y x (called c) k = call-replies y x c (k .0)
+event-replies y x (opened work) k = rw (k .0 .arena)
 
 -- ---- lists
 
 pub calls-same : (y : HostState) (x : State) (cs : List Call) → StandsFor y x → SameCalls y x cs
-unfolding hostRun hostReplies run replies
-calls-same y x [] k = record { replies = refl; leaves = k }
-calls-same y x (c ∷ cs) k =
-    let p = call-same y x c k in
-    let q = calls-same (hostAfter y c) (after x c) cs (p .leaves) in
-    record { replies = rw (p .replies, q .replies); leaves = q .leaves }
+calls-same y x cs k = record {
+  replies =
+      says-alike hostAfter after (λ _. Unit {0}) StandsFor (λ y x c _. call-leaves y x c) hostReply reply (λ y x c _. call-replies y x c)
+      cs (λ _ _. tt) y x k;
+  leaves = runs-related hostAfter after (λ _. Unit {0}) StandsFor (λ y x c _. call-leaves y x c) cs (λ _ _. tt) y x k;
+}
 
 pub events-same : (y : HostState) (x : State) (es : List Event) → StandsFor y x → Small (x .arena) → SameEvents y x es
-unfolding hostRunEvents hostReplyEvents runEvents replyEvents
-events-same y x [] k small = record { replies = refl; leaves = k; small = small }
-events-same y x (e ∷ es) k small =
-    let p = event-same y x e k small in
-    let q = events-same (hostAfterEvent y e) (afterEvent x e) es (p .leaves) (event-small x e small) in
-    record { replies = rw (p .replies, q .replies); leaves = q .leaves; small = q .small }
+events-same y x es k small =
+    let left =
+    runs-related hostAfterEvent (afterEvent alone) (λ _. Unit {0}) Beside (λ y x e _. event-kept y x e) es (λ _ _. tt) y x (k, small) in
+    record {
+      replies =
+          says-alike hostAfterEvent (afterEvent alone) (λ _. Unit {0}) Beside (λ y x e _. event-kept y x e)
+          hostReplyEvent (replyEvent alone) (λ y x e _. event-replies y x e) es (λ _ _. tt) y x (k, small);
+      leaves = left .0;
+      small = left .1;
+    }

@@ -1,108 +1,151 @@
--- What a refused call leaves, how little of the handle's bytes an accepted one changes, and that what a host is shown is so:
--- the info block's place, a lane's record, and where the next step stores.
-use mathlib.Core.Path.{_≡_, refl}
+-- What a refused call leaves, how little of the handle's bytes an accepted one changes, what a wrong busy word does, and that what a host
+-- is shown is so: the info block's place, a lane's record, and where the next step stores.
+use mathlib.Core.Path.{_≡_, refl, sym, ap, _∙_}
 use mathlib.Core.Logic.{_≢_, _⊎_, inl, inr, ⊎-elim}
 use mathlib.Core.Bool.{Bool, true, false, not, cond}
 use mathlib.Core.List.{List, []}
-use Prim.Native.Nat.{ℕ, _+_, _-_, _*_, _/_, _≤_, _<_}
+use Prim.Native.Nat.{ℕ, zero, suc, _+_, _-_, _*_, _/_, _≤_, _<_}
 use native.Mathlib.Omega.{arith}
 use lib.Dec.{eqb, ltb}
-use lib.ListN.{length, getD, take, drop}
+use lib.ListN.{length, getD, take, drop, length-drop}
 use lib.Seq.{take-all}
-use borrow.Author.Tests.{eq-eqb, eqb-true, lt-leb}
+use borrow.Author.Tests.{eq-eqb, ne-eqb}
+use Rattle.words.specs.Word.{word}
 use Rattle.words.proofs.Laws.{getD-putWord-other}
 use Rattle.words.proofs.Runs.{getD-putWords-out}
 use Rattle.reading.proofs.Copies.{copied}
 use Rattle.format.proofs.Tests.{by-bool}
-use Rattle.infoblock.specs.Info.{sound, infoBlockOf, countingOf}
-use Rattle.infoblock.proofs.InfoBlock.{sound-size}
-use Rattle.layout.specs.Figures.{lengthAllowed}
-use Rattle.layout.specs.Place.{Layout, layoutOf, at}
-use Rattle.machine.specs.Handle.{laneAt}
-use Rattle.machine.specs.Reading.{readOf}
-use Rattle.machine.specs.Valid.{Small}
-use Rattle.machine.specs.Writing.{Outcome, Plan, planOf, storeAt, stepNumber, stepOf}
-use Rattle.machine.specs.declared.handle.Handle.{Handle}
-use Rattle.machine.proofs.Running.{running-claim}
-use Rattle.machine.proofs.Rows.{passed}
-use Rattle.handlebytes.specs.Bytes.{recordAt, decodeHandle, busyOk, recordWords}
-use Rattle.handlebytes.specs.Stands.{Stands}
-use Rattle.handlebytes.proofs.Round.{record-again}
-use Rattle.btt.specs.Calls.{bttInfoBlockOf, bttReadOf, bttOf, bttStartOf, bttStepOf}
-use Rattle.btt.specs.Calls.{bttWriteOf, laneNumber, bttLaneOf, nextNumber, nextOffset, bttNextStoreOf}
-use Rattle.btt.specs.Host.{Untouched, OnlyAt, ToldPlace}
-use Rattle.btt.proofs.Rules.{two-passed, few, lane-passed}
+use Rattle.infoblock.specs.Info.{sound, infoBlockOf, countsOf}
+use Rattle.judge.specs.Judge.{infoPartOf}
+use Rattle.judge.proofs.Parts.{main-part, copy-part, no-part}
+use Rattle.layout.specs.Figures.{maxLanes, lengthAllowed}
+use Rattle.layout.specs.Place.{Layout, at}
+use Rattle.machine.specs.Rules.{FirstOf}
+use Rattle.machine.specs.state.Handle.{Handle, laneAt, laidOut, handleAllowed}
+use Rattle.machine.specs.calls.Order.{read, start, step, write, number}
+use Rattle.machine.specs.calls.Reading.{readOf}
+use Rattle.machine.specs.calls.Writing.{Outcome, Plan, planOf, storeAt, stepNumber, startOf, stepOf, writeOf}
+use Rattle.machine.specs.words.InBytes.{Small}
+use Rattle.machine.specs.words.Running.{Holds}
+use Rattle.machine.specs.declared.lane.Lane.{Lane}
+use Rattle.machine.proofs.rules.Rules.{stop}
+use Rattle.machine.proofs.rules.Running.{call-walk}
+use Rattle.machine.proofs.calls.Rule16.{lane-taken}
+use Rattle.machine.proofs.calls.Running.{handle-ok, first-holds, running-claim}
+use Rattle.handlebytes.specs.Bytes.{recordAt, decodeRecord, decodeFigures, decodeHandle, recordWords}
+use Rattle.handlebytes.proofs.Round.{lane-at, record-again}
+use Rattle.btt.specs.Calls.{partSpan, bttInfoBlockOf, handleIn, bttReadOf, bttOf, bttStartOf, bttStepOf, bttWriteOf}
+use Rattle.btt.specs.Calls.{laneOrder, nextOrder, laneNumber, bttLaneOf, nextNumber, nextOffset, bttNextStoreOf}
+use Rattle.btt.specs.Host.{HoldsHandle, Untouched, AllBadHandle, OnlyAt, ToldPlace}
+use Rattle.btt.proofs.Rules.{few, lane-found, lane-walk, next-walk, step-next}
 
 -- ---- the info block
 
-pub info-shown : (a : List ℕ) → take ((bttInfoBlockOf a) .length) (drop ((bttInfoBlockOf a) .offset) a) ≡ infoBlockOf a
-unfolding bttInfoBlockOf infoBlockOf countingOf
-info-shown a =
-    by-bool (lengthAllowed (length a)) Shown
-    (λ t. by-bool (sound (take 4096 a)) Shown (λ m. rw (t, m))
-    (λ m. by-bool (sound (drop (length a - 4096) a)) Shown
-    (λ k. rw (t, m, k) (take-all 4096 (drop (length a - 4096) a) (omega (arith, sound-size (drop (length a - 4096) a) k))))
-    (λ k. rw (t, m, k))))
-    (λ t. rw t)
+part-small : (a : List ℕ) → infoPartOf a ≤ 2
+unfolding infoPartOf countsOf
+part-small a = go (lengthAllowed (length a)) (sound (take 4096 a)) (sound (drop (length a - 4096) a))
   where
-    Shown : Type 0
-    Shown = take ((bttInfoBlockOf a) .length) (drop ((bttInfoBlockOf a) .offset) a) ≡ infoBlockOf a
+    go : (t u v : Bool) → cond t (cond u 0 (cond v 1 2)) 2 ≤ 2
+    go true true v = omega arith
+    go true false true = omega arith
+    go true false false = omega arith
+    go false u v = omega arith
+
+pub info-shown : (a : List ℕ) → take ((bttInfoBlockOf a) .length) (drop ((bttInfoBlockOf a) .offset) a) ≡ infoBlockOf a
+unfolding bttInfoBlockOf
+info-shown a = go (infoPartOf a) refl (part-small a)
+  where
+    go : (k : ℕ) → infoPartOf a ≡ k → k ≤ 2
+        → take ((partSpan (length a) k) .length) (drop ((partSpan (length a) k) .offset) a) ≡ infoBlockOf a
+    go zero e u = main-part a e .1
+    go (suc zero) e u =
+        let p = copy-part a e in
+        let n : length (drop (length a - 4096) a) ≤ 4096 = rw length-drop (omega (arith, p .0)) in
+        take-all 4096 (drop (length a - 4096) a) n ∙ p .1
+    go (suc (suc zero)) e u = no-part a e
+    go (suc (suc (suc k))) e u = absurd (omega arith)
 
 -- ---- refusals
 
 pub read-left : (a b : List ℕ) (s : ℕ) (buffer : List ℕ) → (bttReadOf a b s buffer) .number ≢ 0 → (bttReadOf a b s buffer) .buffer ≡ buffer
 unfolding bttReadOf
-read-left a b s buffer = go (busyOk b)
-  where
-    go : (t : Bool)
-        → (cond t (readOf a (decodeHandle b) s buffer) (record { number = 16; buffer = buffer })) .number ≢ 0
-        → (cond t (readOf a (decodeHandle b) s buffer) (record { number = 16; buffer = buffer })) .buffer ≡ buffer
-    go true z = running-claim .read-refused a (decodeHandle b) s buffer z
-    go false z = refl
+read-left a b s buffer z = running-claim .read-refused a (handleIn b) s buffer z
 
 module _ (a b : List ℕ) (l : ℕ) where
-  left : (o : Outcome) → (o .number ≢ 0 → o .arena ≡ a) → (bttOf a b l o) .number ≢ 0 → Untouched a b (bttOf a b l o)
+  left : (o : Outcome) → (o .number ≢ 0 → o .arena ≡ a) → (bttOf b l o) .number ≢ 0 → Untouched a b (bttOf b l o)
   unfolding bttOf
-  left o r z =
-      by-bool (busyOk b) (Untouched a b (bttOf a b l o))
-      (λ t. let n : o .number ≢ 0 = rw t at z in
-      by-bool (eqb (o .number) 0) (Untouched a b (bttOf a b l o)) (λ e. absurd (n (eqb-true _ _ e)))
-      (λ e. rw (t, e) (record { arena = r n; handle = refl })))
-      (λ t. rw t (record { arena = refl; handle = refl }))
+  left o r z = record { arena = r z; handle = rw (ne-eqb (o .number) 0 z) }
 
   pub start-left : (s : ℕ) → (bttStartOf a b l s) .number ≢ 0 → Untouched a b (bttStartOf a b l s)
-  start-left s = left _ (λ n. running-claim .start-refused a (decodeHandle b) l s n .arena)
+  start-left s = left _ (λ n. running-claim .start-refused a (handleIn b) l s n .arena)
 
   pub step-left : (buffer : List ℕ) → (bttStepOf a b l buffer) .number ≢ 0 → Untouched a b (bttStepOf a b l buffer)
-  step-left buffer = left _ (λ n. running-claim .step-refused a (decodeHandle b) l buffer n .arena)
+  step-left buffer = left _ (λ n. running-claim .step-refused a (handleIn b) l buffer n .arena)
 
   pub write-left : (s : ℕ) (buffer : List ℕ) → (bttWriteOf a b l s buffer) .number ≢ 0 → Untouched a b (bttWriteOf a b l s buffer)
-  write-left s buffer = left _ (λ n. running-claim .write-refused a (decodeHandle b) l s buffer n .arena)
+  write-left s buffer = left _ (λ n. running-claim .write-refused a (handleIn b) l s buffer n .arena)
 
-  -- ---- what an accepted call changes of the handle's bytes
+-- ---- a busy word other than 0 and 1
 
-  pub record-only : (o : Outcome) → OnlyAt (4 * recordAt l) 28 b ((bttOf a b l o) .handle)
-  unfolding bttOf recordWords
-  record-only o j h =
-      let r = laneAt (o .handle .lanes) l in
-      let out : (j < 4 * recordAt l) ⊎ (4 * (recordAt l + 7) ≤ j) = ⊎-elim (λ x. inl x) (λ x. inr (omega arith)) h in
-      by-bool (busyOk b) Kept
-      (λ t. by-bool (eqb (o .number) 0) Kept (λ u. rw (t, u) (getD-putWords-out (recordWords r) b (recordAt l) j out)) (λ u. rw (t, u)))
-      (λ t. rw t)
-    where
-      Kept : Type 0
-      Kept = getD ((bttOf a b l o) .handle) j 0 ≡ getD b j 0
+module _ (a b : List ℕ) (l : ℕ) (u : l < maxLanes) (v : l < (decodeFigures b) .lanes) (w : 2 ≤ word b (recordAt l)) where
+  -- the record that the handle has for the lane
+  busy-is : laneAt ((handleIn b) .lanes) l .busy ≡ word b (recordAt l)
+  unfolding decodeHandle decodeRecord
+  busy-is =
+      ap (λ (r : Lane). r .busy)
+      (lane-taken ((decodeHandle b) .lanes) ((decodeFigures b) .lanes) l v ∙ lane-at b maxLanes l u)
+
+  not-allowed : handleAllowed (handleIn b) (length a) ≡ false
+  unfolding decodeHandle
+  not-allowed =
+      by-bool (handleAllowed (handleIn b) (length a)) _
+      (λ t. let k = handle-ok (handleIn b) (length a) t .lanes l v in
+      absurd (⊎-elim (λ x. omega (arith, busy-is)) (λ x. omega (arith, busy-is)) (k .busy)))
+      (λ t. t)
+
+  pub busy-wrong : AllBadHandle a b
+  unfolding bttReadOf bttOf bttLaneOf bttNextStoreOf readOf startOf stepOf writeOf
+  busy-wrong =
+      let e = ap not not-allowed in
+      record {
+        read = λ s buffer. sym (call-walk a (handleIn b) (read s buffer) (stop e));
+        start = λ k s. sym (call-walk a (handleIn b) (start k s) (stop e));
+        step = λ k buffer. sym (call-walk a (handleIn b) (step k buffer) (stop e));
+        write = λ k s buffer. sym (call-walk a (handleIn b) (write k s buffer) (stop e));
+        lane = λ k out. sym (lane-walk a (handleIn b) k (stop e));
+        next-store = λ k offset. sym (next-walk a (handleIn b) k (stop e));
+      }
+
+-- ---- what an accepted call changes of the handle's bytes
+
+pub record-only : (b : List ℕ) (l : ℕ) (o : Outcome) → OnlyAt (4 * recordAt l) 28 b ((bttOf b l o) .handle)
+unfolding bttOf recordWords
+record-only b l o j h =
+    let out : (j < 4 * recordAt l) ⊎ (4 * (recordAt l + 7) ≤ j) = ⊎-elim (λ x. inl x) (λ x. inr (omega arith)) h in
+    by-bool (eqb (o .number) 0) (getD ((bttOf b l o) .handle) j 0 ≡ getD b j 0)
+    (λ t. rw t (getD-putWords-out (recordWords (laneAt (o .handle .lanes) l)) b (recordAt l) j out)) (λ t. rw t)
 
 -- ---- a lane's record
 
-pub lane-shown : (a b : List ℕ) (h : Handle) (l : ℕ) (out : List ℕ) → Stands b h → Small out → length out ≡ 28 → (bttLaneOf a b l out) .number ≡ 0
-    → (bttLaneOf a b l out) .out ≡ take 28 (drop (4 * recordAt l) b)
+pub lane-answered : (a b : List ℕ) (h : Handle) (l : ℕ) (out : List ℕ) → HoldsHandle b h
+    → FirstOf number (Holds a h) (laneOrder l) ((bttLaneOf a b l out) .number)
+unfolding bttLaneOf laneNumber
+lane-answered a b h l out s = rw (s .is) (first-holds a h (laneOrder l))
+
+pub next-answered : (a b : List ℕ) (h : Handle) (l offset : ℕ) → HoldsHandle b h
+    → FirstOf number (Holds a h) (nextOrder l) ((bttNextStoreOf a b l offset) .number)
+unfolding bttNextStoreOf nextNumber
+next-answered a b h l offset s = rw (s .is) (first-holds a h (nextOrder l))
+
+pub lane-shown : (a b : List ℕ) (h : Handle) (l : ℕ) (out : List ℕ) → HoldsHandle b h → Small out → length out ≡ 28
+    → (bttLaneOf a b l out) .number ≡ 0 → (bttLaneOf a b l out) .out ≡ take 28 (drop (4 * recordAt l) b)
 unfolding bttLaneOf
 lane-shown a b h l out s small size z =
-    let n : laneNumber a h l ≡ 0 = rw (s .busy, s .is) at z in
-    let p = lane-passed a h l (laneNumber a h l) refl (eq-eqb _ _ n) in
-    let u = few h _ l (p .0) (p .1) in
-    rw (s .busy, s .is, n, record-again b h l s u (p .1))
+    let p = decodeHandle b in
+    let f = lane-found a (handleIn b) l z in
+    let u = few (handleIn b) _ l (f .handle) (f .lane) in
+    let r = record-again b p l (record { size = s .size; small = s .small; is = refl }) u in
+    rw (z, lane-taken (p .lanes) (p .figures .lanes) l (f .lane), r)
     (copied out 7 small size b (recordAt l) (s .small) (rw (s .size) (omega arith)))
 
 -- ---- the place of the next store
@@ -113,19 +156,11 @@ unfolding storeAt
 place-same g p bytes k =
     by-bool (ltb k (g .W)) (storeAt g p bytes k .place ≡ storeAt g p [] k .place) (λ t. rw t) (λ t. rw t)
 
--- the rows of a step and of its place begin alike
-step-next : (a : List ℕ) (h : Handle) (l : ℕ) (buffer : List ℕ) → stepNumber a h l buffer ≡ 0 → nextNumber a h l ≡ 0
-unfolding stepNumber nextNumber
-step-next a h l buffer z =
-    let p = two-passed a h l _ z in
-    let q = passed (not (laneAt (h .lanes) l .busy)) 13 _ (p .2) in
-    rw (p .0, lt-leb _ _ (p .1), q .0)
-
 step-only : (a : List ℕ) (h : Handle) (l : ℕ) (buffer : List ℕ) → stepNumber a h l buffer ≡ 0
     → OnlyAt (nextOffset h l) 4 a ((stepOf a h l buffer) .arena)
 unfolding nextOffset stepOf
 step-only a h l buffer z j u =
-    let g = layoutOf (h .figures) in
+    let g = laidOut h in
     let r = laneAt (h .lanes) l in
     let i = at g (storeAt g (planOf l r) [] (r .made) .place) in
     let d : j / 4 ≢ i = λ e. ⊎-elim (λ x. omega arith) (λ x. omega arith) u in
@@ -133,10 +168,8 @@ step-only a h l buffer z j u =
     (getD-putWord-other a i (storeAt g (planOf l r) buffer (r .made) .value) j d)
 
 pub place-told : (a b : List ℕ) (l offset : ℕ) (buffer : List ℕ) → (bttStepOf a b l buffer) .number ≡ 0 → ToldPlace a b l offset buffer
-unfolding bttOf bttNextStoreOf stepOf
+unfolding bttOf bttNextStoreOf
 place-told a b l offset buffer z =
-    by-bool (busyOk b) (ToldPlace a b l offset buffer)
-    (λ t. let n : stepNumber a (decodeHandle b) l buffer ≡ 0 = rw t at z in
-    let m = step-next a (decodeHandle b) l buffer n in
-    record { number = rw (t, m); store = rw (t, m) (step-only a (decodeHandle b) l buffer n) })
-    (λ t. let n : 16 ≡ 0 = rw t at z in absurd (omega arith))
+    let n : stepNumber a (handleIn b) l buffer ≡ 0 = unfold stepOf in z in
+    let m = step-next a (handleIn b) l buffer n in
+    record { number = m; store = rw m (step-only a (handleIn b) l buffer n) }

@@ -1,30 +1,36 @@
--- Each call of the library: the machine's call on the decoded handle, with the record that it changed put back into the handle's bytes.
-use mathlib.Core.Bool.{cond, not}
+-- Each call of the library: the machine's call on the handle that the bytes hold, with the record that it changed put back into them.
+use mathlib.Core.Bool.{cond}
 use mathlib.Core.List.{List, [], _∷_}
-use Prim.Native.Nat.{ℕ, _-_, _*_}
-use lib.Dec.{eqb, leb}
-use lib.ListN.{length, take, drop, replicate}
-use Rattle.infoblock.specs.Info.{sound}
-use Rattle.layout.specs.Figures.{lengthAllowed}
-use Rattle.layout.specs.Place.{layoutOf, at}
-use Rattle.machine.specs.Rules.{_⇒_, verdict}
-use Rattle.machine.specs.Handle.{laneAt, handleAllowed}
-use Rattle.machine.specs.Opening.{openOf}
-use Rattle.machine.specs.Reading.{Read, readOf}
-use Rattle.machine.specs.Writing.{Outcome, planOf, storeAt, startOf, stepOf, writeOf}
-use Rattle.machine.specs.declared.handle.Handle.{Handle}
-use Rattle.handlebytes.specs.Bytes.{handleBytes, recordAt, putRecord, decodeHandle, busyOk, encodeHandle}
+use Prim.Native.Nat.{ℕ, zero, suc, _-_, _*_}
+use lib.Dec.{eqb}
+use lib.ListN.{length, replicate}
+use Rattle.layout.specs.Place.{at}
+use Rattle.layout.specs.Told.{alone}
+use Rattle.judge.specs.Judge.{infoPartOf}
+use Rattle.machine.specs.Rules.{answer}
+use Rattle.machine.specs.state.Handle.{Handle, laneAt, laidOut}
+use Rattle.machine.specs.state.Packed.{unpacked, packedUp}
+use Rattle.machine.specs.calls.Order.{Rule, badHandle, noSuchLane, laneIdle, number}
+use Rattle.machine.specs.calls.Judging.{tests}
+use Rattle.machine.specs.calls.Opening.{openOf}
+use Rattle.machine.specs.calls.Reading.{Read, readOf}
+use Rattle.machine.specs.calls.Writing.{Outcome, planOf, storeAt, startOf, stepOf, writeOf}
+use Rattle.machine.specs.declared.lane.Lane.{Lane}
+use Rattle.handlebytes.specs.Bytes.{handleBytes, recordAt, putRecord, decodeHandle, encodeHandle}
 use Rattle.btt.specs.declared.inspect.Span.{Span}
 
 abbrev pub span : ℕ → ℕ → Span
 span offset length = record { offset = offset; length = length }
 
--- the place of the info block that counts; 0 and 0 where none does
+-- the place of an info block in n bytes: the first (0), the copy (1), and 0 and 0 for neither
+abbrev pub partSpan : ℕ → ℕ → Span
+partSpan n zero = span 0 4096
+partSpan n (suc zero) = span (n - 4096) 4096
+partSpan n (suc (suc k)) = span 0 0
+
+-- the place of the info block that counts
 unfoldable pub bttInfoBlockOf : List ℕ → Span
-bttInfoBlockOf a =
-    cond (lengthAllowed (length a))
-    (cond (sound (take 4096 a)) (span 0 4096) (cond (sound (drop (length a - 4096) a)) (span (length a - 4096) 4096) (span 0 0)))
-    (span 0 0)
+bttInfoBlockOf a = partSpan (length a) (infoPartOf a)
 
 -- what an opening leaves: the number, the count, and every lent byte
 pub record HostOpening : Type 0 where
@@ -37,18 +43,21 @@ pub record HostOpening : Type 0 where
 -- a refused opening leaves the handle's bytes all zeroes
 unfoldable pub bttOpenOf : List ℕ → List ℕ → HostOpening
 bttOpenOf a work =
-    let o = openOf a work in
+    let o = openOf alone a work in
     record {
       number = o .number;
       mended = o .mended;
       arena = o .arena;
-      handle = cond (eqb (o .number) 0) (encodeHandle (o .handle)) (replicate handleBytes 0);
+      handle = cond (eqb (o .number) 0) (encodeHandle (packedUp (o .handle))) (replicate handleBytes 0);
       work = o .work;
     }
 
--- in a call with a handle a busy word other than 0 or 1 is 16, and changes nothing
+-- the handle that bytes hold
+abbrev pub handleIn : List ℕ → Handle
+handleIn b = unpacked (decodeHandle b)
+
 unfoldable pub bttReadOf : List ℕ → List ℕ → ℕ → List ℕ → Read
-bttReadOf a b s buffer = cond (busyOk b) (readOf a (decodeHandle b) s buffer) (record { number = 16; buffer = buffer })
+bttReadOf a b s buffer = readOf a (handleIn b) s buffer
 
 -- what a start, a step or a whole write leaves
 pub record HostOutcome : Type 0 where
@@ -56,27 +65,36 @@ pub record HostOutcome : Type 0 where
   pub arena : List ℕ
   pub handle : List ℕ
 
--- the handle's bytes after a call on lane l: those of its record, and only if accepted
-abbrev pub putBack : List ℕ → ℕ → Outcome → List ℕ
-putBack b l o = cond (eqb (o .number) 0) (putRecord b (recordAt l) (laneAt (o .handle .lanes) l)) b
+-- the handle's bytes after a call on lane l that answered n and left these records: those of the lane's record, and only if accepted
+abbrev pub putBack : List ℕ → ℕ → ℕ → List Lane → List ℕ
+putBack b l n lanes = cond (eqb n 0) (putRecord b (recordAt l) (laneAt lanes l)) b
 
-unfoldable pub bttOf : List ℕ → List ℕ → ℕ → Outcome → HostOutcome
-bttOf a b l o = cond (busyOk b)
-    (record { number = o .number; arena = o .arena; handle = putBack b l o })
-    (record { number = 16; arena = a; handle = b })
+unfoldable pub bttOf : List ℕ → ℕ → Outcome → HostOutcome
+bttOf b l o = record { number = o .number; arena = o .arena; handle = putBack b l (o .number) (o .handle .lanes) }
 
 abbrev pub bttStartOf : List ℕ → List ℕ → ℕ → ℕ → HostOutcome
-bttStartOf a b l s = bttOf a b l (startOf a (decodeHandle b) l s)
+bttStartOf a b l s = bttOf b l (startOf a (handleIn b) l s)
 
 abbrev pub bttStepOf : List ℕ → List ℕ → ℕ → List ℕ → HostOutcome
-bttStepOf a b l buffer = bttOf a b l (stepOf a (decodeHandle b) l buffer)
+bttStepOf a b l buffer = bttOf b l (stepOf a (handleIn b) l buffer)
 
 abbrev pub bttWriteOf : List ℕ → List ℕ → ℕ → ℕ → List ℕ → HostOutcome
-bttWriteOf a b l s buffer = bttOf a b l (writeOf a (decodeHandle b) l s buffer)
+bttWriteOf a b l s buffer = bttOf b l (writeOf a (handleIn b) l s buffer)
 
--- a lane's record, for inspection: 16, 11
+-- ---- looking at a lane
+
+-- the rules of a look at a lane's record, and of a look at where its next step stores
+abbrev pub laneOrder : ℕ → List Rule
+laneOrder l = badHandle ∷ noSuchLane l ∷ []
+
+abbrev pub nextOrder : ℕ → List Rule
+nextOrder l = badHandle ∷ noSuchLane l ∷ laneIdle l ∷ []
+
 unfoldable pub laneNumber : List ℕ → Handle → ℕ → ℕ
-laneNumber a h l = verdict ((not (handleAllowed h (length a)) ⇒ 16) ∷ (leb (h .figures .lanes) l ⇒ 11) ∷ [])
+laneNumber a h l = answer number (tests a h) (laneOrder l)
+
+unfoldable pub nextNumber : List ℕ → Handle → ℕ → ℕ
+nextNumber a h l = answer number (tests a h) (nextOrder l)
 
 pub record HostLane : Type 0 where
   pub number : ℕ
@@ -84,21 +102,12 @@ pub record HostLane : Type 0 where
 
 unfoldable pub bttLaneOf : List ℕ → List ℕ → ℕ → List ℕ → HostLane
 bttLaneOf a b l out =
-    let h = decodeHandle b in
-    let n = cond (busyOk b) (laneNumber a h l) 16 in
-    record { number = n; out = cond (eqb n 0) (putRecord out 0 (laneAt (h .lanes) l)) out }
+    let n = laneNumber a (handleIn b) l in
+    record { number = n; out = cond (eqb n 0) (putRecord out 0 (laneAt (handleIn b .lanes) l)) out }
 
--- where a lane's next step stores: 16, 11, 14
-unfoldable pub nextNumber : List ℕ → Handle → ℕ → ℕ
-nextNumber a h l = verdict (
-    (not (handleAllowed h (length a)) ⇒ 16) ∷ (leb (h .figures .lanes) l ⇒ 11) ∷ (not ((laneAt (h .lanes) l) .busy) ⇒ 14) ∷ [])
-
--- the place of a store does not depend on the buffer's bytes
+-- the byte that the lane's next step stores to; the place of a store does not depend on the buffer's bytes
 unfoldable pub nextOffset : Handle → ℕ → ℕ
-nextOffset h l =
-    let g = layoutOf (h .figures) in
-    let r = laneAt (h .lanes) l in
-    4 * at g (storeAt g (planOf l r) [] (r .made) .place)
+nextOffset h l = let r = laneAt (h .lanes) l in 4 * at (laidOut h) (storeAt (laidOut h) (planOf l r) [] (r .made) .place)
 
 pub record HostNext : Type 0 where
   pub number : ℕ
@@ -106,6 +115,5 @@ pub record HostNext : Type 0 where
 
 unfoldable pub bttNextStoreOf : List ℕ → List ℕ → ℕ → ℕ → HostNext
 bttNextStoreOf a b l offset =
-    let h = decodeHandle b in
-    let n = cond (busyOk b) (nextNumber a h l) 16 in
-    record { number = n; offset = cond (eqb n 0) (nextOffset h l) offset }
+    let n = nextNumber a (handleIn b) l in
+    record { number = n; offset = cond (eqb n 0) (nextOffset (handleIn b) l) offset }

@@ -1,13 +1,13 @@
 -- What a call gave its host, in the form of the call's definition: the number returned, and the lent bytes and numbers at exit.
 use mathlib.Core.List.{List}
 use Prim.Native.Nat.{ℕ}
-use Rattle.machine.specs.Handle.{noHandle}
-use Rattle.machine.specs.Making.{Made}
-use Rattle.machine.specs.Opening.{Opening}
-use Rattle.machine.specs.Reading.{Read}
+use Rattle.machine.specs.state.Handle.{noHandle}
+use Rattle.machine.specs.calls.Making.{MakeOutcome}
+use Rattle.machine.specs.calls.Opening.{Opening}
+use Rattle.machine.specs.calls.Reading.{Read}
 use Rattle.btt.specs.Calls.{HostOpening, HostOutcome, HostLane, HostNext}
 
-abbrev pub made : ℕ → List ℕ → Made
+abbrev pub made : ℕ → List ℕ → MakeOutcome
 made n arena = record { number = n; arena = arena }
 
 abbrev pub opened : ℕ → ℕ → List ℕ → List ℕ → List ℕ → HostOpening

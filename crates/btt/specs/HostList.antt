@@ -1,12 +1,15 @@
 -- A host's list of calls and openings, made through the library alone: what it leaves and answers. The claim is that a list that begins
--- with bytes that stand for a handle is the machine's list on that handle, so what demands 2 and 3 say of lists holds of a host's.
+-- with bytes that hold a handle is the machine's list on that handle, so what demands 2 and 3 say of lists holds of a host's.
 use mathlib.Core.Path.{_≡_}
 use mathlib.Core.Bool.{cond}
-use mathlib.Core.List.{List, [], _∷_}
+use mathlib.Core.List.{List}
 use Prim.Native.Nat.{ℕ}
 use lib.Dec.{eqb}
-use Rattle.machine.specs.DemandTwo.{openedFrom}
-use Rattle.machine.specs.History.{
+use Rattle.layout.specs.Told.{alone}
+use Rattle.machine.specs.calls.Opening.{openOf}
+use Rattle.machine.specs.calls.History.{
+  runs,
+  says,
   Call,
   read,
   start,
@@ -22,10 +25,11 @@ use Rattle.machine.specs.History.{
   opened,
   runEvents,
   replyEvents,
+  openedFrom,
 }
-use Rattle.machine.specs.Valid.{Small}
-use Rattle.handlebytes.specs.Stands.{Stands}
+use Rattle.machine.specs.words.InBytes.{Small}
 use Rattle.btt.specs.Calls.{HostOpening, HostOutcome, bttOpenOf, bttReadOf, bttStartOf, bttStepOf, bttWriteOf}
+use Rattle.btt.specs.Host.{HoldsHandle}
 
 -- an arena and the bytes of its latest handle
 pub record HostState : Type 0 where
@@ -46,19 +50,18 @@ hostAfter y (step l buffer) = outcomeHost (bttStepOf (y .arena) (y .handle) l bu
 hostAfter y (write l s buffer) = outcomeHost (bttWriteOf (y .arena) (y .handle) l s buffer)
 
 abbrev pub hostReply : HostState → Call → Reply
-hostReply y (read s buffer) = let r = bttReadOf (y .arena) (y .handle) s buffer in record { number = r .number; buffer = r .buffer; mended = 0 }
+hostReply y (read s buffer) =
+    let r = bttReadOf (y .arena) (y .handle) s buffer in
+    record { number = r .number; buffer = r .buffer; mended = 0 }
 hostReply y (start l s) = justNumber ((bttStartOf (y .arena) (y .handle) l s) .number)
 hostReply y (step l buffer) = justNumber ((bttStepOf (y .arena) (y .handle) l buffer) .number)
 hostReply y (write l s buffer) = justNumber ((bttWriteOf (y .arena) (y .handle) l s buffer) .number)
 
--- each call is given what the last one left
-unfoldable pub hostRun : HostState → List Call → HostState
-hostRun y [] = y
-hostRun y (c ∷ cs) = hostRun (hostAfter y c) cs
+abbrev pub hostRun : HostState → List Call → HostState
+hostRun y cs = runs hostAfter y cs
 
-unfoldable pub hostReplies : HostState → List Call → List Reply
-hostReplies y [] = []
-hostReplies y (c ∷ cs) = hostReply y c ∷ hostReplies (hostAfter y c) cs
+abbrev pub hostReplies : HostState → List Call → List Reply
+hostReplies y cs = says hostAfter hostReply y cs
 
 -- ---- with openings between
 
@@ -73,20 +76,18 @@ abbrev pub hostReplyEvent : HostState → Event → Reply
 hostReplyEvent y (called c) = hostReply y c
 hostReplyEvent y (opened work) = let o = bttOpenOf (y .arena) work in record { number = o .number; buffer = o .work; mended = o .mended }
 
-unfoldable pub hostRunEvents : HostState → List Event → HostState
-hostRunEvents y [] = y
-hostRunEvents y (e ∷ es) = hostRunEvents (hostAfterEvent y e) es
+abbrev pub hostRunEvents : HostState → List Event → HostState
+hostRunEvents y es = runs hostAfterEvent y es
 
-unfoldable pub hostReplyEvents : HostState → List Event → List Reply
-hostReplyEvents y [] = []
-hostReplyEvents y (e ∷ es) = hostReplyEvent y e ∷ hostReplyEvents (hostAfterEvent y e) es
+abbrev pub hostReplyEvents : HostState → List Event → List Reply
+hostReplyEvents y es = says hostAfterEvent hostReplyEvent y es
 
 -- ---- the claim
 
--- a host has the machine's arena, and bytes that stand for its handle
+-- a host has the machine's arena, and bytes that hold its handle
 pub record StandsFor (y : HostState) (x : State) : Type 0 where
   pub arena : y .arena ≡ x .arena
-  pub handle : Stands (y .handle) (x .handle)
+  pub handle : HoldsHandle (y .handle) (x .handle)
 
 -- a host's list answers as the machine's, call by call, and leaves what stands for what the machine's leaves
 pub record SameCalls (y : HostState) (x : State) (cs : List Call) : Type 0 where
@@ -95,14 +96,15 @@ pub record SameCalls (y : HostState) (x : State) (cs : List Call) : Type 0 where
 
 -- with openings between: the arena that is left is bytes still, so that another such list may follow
 pub record SameEvents (y : HostState) (x : State) (es : List Event) : Type 0 where
-  pub replies : hostReplyEvents y es ≡ replyEvents x es
-  pub leaves : StandsFor (hostRunEvents y es) (runEvents x es)
-  pub small : Small ((runEvents x es) .arena)
+  pub replies : hostReplyEvents y es ≡ replyEvents alone x es
+  pub leaves : StandsFor (hostRunEvents y es) (runEvents alone x es)
+  pub small : Small ((runEvents alone x es) .arena)
 
 pub record HostListClaim : Type 0 where
-  -- any calls with any numbers and buffers, on any arena and any handle that the host's bytes stand for
+  -- any calls with any numbers and buffers, on any arena and any handle that the host's bytes hold
   pub calls : (y : HostState) (x : State) (cs : List Call) → StandsFor y x → SameCalls y x cs
   -- any calls and openings, on an arena of bytes
   pub events : (y : HostState) (x : State) (es : List Event) → StandsFor y x → Small (x .arena) → SameEvents y x es
-  -- a host that begins with an opening has what the machine has
-  pub first : (a work : List ℕ) → Small a → StandsFor (openedHost (bttOpenOf a work)) (openedFrom a work)
+  -- a host that begins with an accepted opening has what the machine has
+  pub first : (a work : List ℕ) → Small a → (openOf alone a work) .number ≡ 0
+      → StandsFor (openedHost (bttOpenOf a work)) (openedFrom alone a work)

@@ -1,13 +1,19 @@
 // The claims about the library's calls, each the contract of a function that does nothing.
 ghost use Rattle.btt.specs.Host.{HostClaim};
 ghost use Rattle.btt.specs.HostList.{HostListClaim};
+ghost use Rattle.btt.specs.HostDemands.{HostDemands};
 
-// Each call through bytes that stand for a handle is the machine's call on that handle; a refusal changes nothing; what a host is shown is so.
+// Each call through bytes that hold a handle is the machine's call on that handle; a refusal changes nothing; what a host is shown is so.
 pub fn host()
     ensures host { λ _. ⌜ HostClaim ⌝ }
 {}
 
-// A host's list of calls and openings answers as the machine's does, and leaves the machine's arena and bytes that stand for its handle.
+// A host's list of calls and openings answers as the machine's does, and leaves the machine's arena and bytes that hold its handle.
 pub fn host_list()
     ensures host_list { λ _. ⌜ HostListClaim ⌝ }
+{}
+
+// A host's list behaves as the plain row of sectors, and cut anywhere it leaves what the book says.
+pub fn host_demands()
+    ensures host_demands { λ _. ⌜ HostDemands ⌝ }
 {}

@@ -1,7 +1,8 @@
 // What a host looks up: the place of the info block that counts, whether a lane has a record or a write, and where its next step stores.
 use format::numbers::LaneNo;
-use infoblock::is_sound;
-use layout::length_allowed;
+use infoblock::Counts;
+use judge::info::info_part;
+use layout::alone;
 use machine::answer::Answer;
 use machine::handle::Handle;
 use machine::handle::handle_allowed;
@@ -10,8 +11,9 @@ ghost use mathlib.Core.Path.{_≡_};
 ghost use mathlib.Core.Bool.{true};
 ghost use Prim.Native.Nat.{_<_};
 ghost use lib.ListN.{length};
-ghost use Rattle.machine.specs.Answer.{numberOf};
-ghost use Rattle.machine.specs.Handle.{handleAllowed};
+ghost use Rattle.machine.specs.state.Answer.{numberOf};
+ghost use Rattle.machine.specs.state.Handle.{handleAllowed};
+ghost use Rattle.machine.specs.state.Packed.{unpacked};
 ghost use Rattle.btt.specs.Calls.{bttInfoBlockOf, laneNumber, nextNumber, nextOffset};
 
 // A part of an arena, in bytes.
@@ -25,33 +27,25 @@ pub fn info_span(arena: &[u8]) -> Span
     ensures { λ r. ⌜ r ≡ bttInfoBlockOf (now (arena .entry)) ⌝ }
 {
     let n = arena.len();
-    if !length_allowed(n) {
-        return Span {
-            offset: 0,
-            length: 0,
-        };
-    }
-    if is_sound(&arena[0..4096]) {
-        return Span {
+    match info_part(arena) {
+        Counts::Main => Span {
             offset: 0,
             length: 4096,
-        };
-    }
-    if is_sound(&arena[n - 4096..]) {
-        return Span {
+        },
+        Counts::Copy => Span {
             offset: (n - 4096) as u64,
             length: 4096,
-        };
-    }
-    Span {
-        offset: 0,
-        length: 0,
+        },
+        Counts::Neither => Span {
+            offset: 0,
+            length: 0,
+        },
     }
 }
 
-// Judges a look at a lane's record: 16, 11.
+// Judges a look at a lane's record: the first rule of its order that applies.
 pub fn judge_lane(arena: &[u8], h: Handle, lane: LaneNo) -> Answer
-    ensures { λ r. ⌜ numberOf r ≡ laneNumber (now (arena .entry)) h (lane .0) ⌝ }
+    ensures { λ r. ⌜ numberOf r ≡ laneNumber (now (arena .entry)) (unpacked h) (lane .0) ⌝ }
 {
     if !handle_allowed(h, arena.len()) {
         return Answer::BadHandle;
@@ -63,9 +57,9 @@ pub fn judge_lane(arena: &[u8], h: Handle, lane: LaneNo) -> Answer
     Answer::Done
 }
 
-// Judges a look at a lane's next store: 16, 11, 14.
+// Judges a look at a lane's next store: the first rule of its order that applies.
 pub fn judge_next(arena: &[u8], h: Handle, lane: LaneNo) -> Answer
-    ensures { λ r. ⌜ numberOf r ≡ nextNumber (now (arena .entry)) h (lane .0) ⌝ }
+    ensures { λ r. ⌜ numberOf r ≡ nextNumber (now (arena .entry)) (unpacked h) (lane .0) ⌝ }
 {
     let answer = judge_lane(arena, h, lane);
     if !answer.is_done() {
@@ -73,7 +67,7 @@ pub fn judge_next(arena: &[u8], h: Handle, lane: LaneNo) -> Answer
     }
     let i = lane.0 as usize;
     let r = h.lanes[i];
-    if !r.busy {
+    if !r.is_busy() {
         return Answer::LaneIdle;
     }
     answer
@@ -81,11 +75,11 @@ pub fn judge_next(arena: &[u8], h: Handle, lane: LaneNo) -> Answer
 
 // The byte offset that a lane's next step stores to.
 pub fn next_offset(arena: &[u8], h: Handle, lane: LaneNo) -> u64
-    requires { ⌜ (handleAllowed h (length (now arena)) ≡ true) × (lane .0 < h .figures .lanes) ⌝ }
-    ensures { λ r. ⌜ r ≡ nextOffset h (lane .0) ⌝ }
+    requires { ⌜ (handleAllowed (unpacked h) (length (now arena)) ≡ true) × (lane .0 < h .figures .lanes) ⌝ }
+    ensures { λ r. ⌜ r ≡ nextOffset (unpacked h) (lane .0) ⌝ }
 {
     let i = lane.0 as usize;
     let r = h.lanes[i];
-    let place = store_place(h.figures, lane, r, r.made);
+    let place = store_place(h.figures, alone().distance, lane, r, r.made);
     4 * place as u64
 }

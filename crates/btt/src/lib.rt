@@ -1,5 +1,5 @@
-// The library for hosts: each call of an arena as a function that C can call. A handle is 512 bytes that the host keeps; a call decodes them,
-// and puts back the one record that it changed. Lane and sector numbers become types of their own here.
+// The library for hosts: each call of an arena as a function that C can call. A handle is 512 bytes that the host keeps; a call decodes
+// them, and puts back the one record that it changed. Lane and sector numbers become types of their own here.
 use arena::make;
 use arena::open::cut_open;
 use arena::open::open;
@@ -11,7 +11,6 @@ use format::numbers::LaneNo;
 use format::numbers::SectorNo;
 use handlebytes::HEAD;
 use handlebytes::RECORD;
-use handlebytes::busy_ok;
 use handlebytes::handle_in;
 use handlebytes::put_handle;
 use handlebytes::put_record;
@@ -19,16 +18,16 @@ use inspect::info_span;
 use inspect::judge_lane;
 use inspect::judge_next;
 use inspect::next_offset;
-use machine::answer::Answer;
 use writing::Stepped;
 ghost use mathlib.Core.Path.{_≡_};
-ghost use mathlib.Core.List.{[]};
-ghost use Prim.Native.Nat.{_<_};
-ghost use Rattle.making.specs.Gave.{orderOf};
-ghost use Rattle.machine.specs.Making.{makeOf};
-ghost use Rattle.machine.specs.Opening.{cutOpenOf};
-ghost use Rattle.machine.specs.Answer.{numberOf};
-ghost use Rattle.writing.specs.Gave.{stepGave};
+ghost use Prim.Native.Nat.{_≤_, _<_};
+ghost use Rattle.layout.specs.Figures.{maxLanes};
+ghost use Rattle.layout.specs.Told.{alone};
+ghost use Rattle.making.specs.Gave.{wantedOf};
+ghost use Rattle.machine.specs.calls.Making.{makeOf};
+ghost use Rattle.machine.specs.calls.Opening.{cutOpenOf};
+ghost use Rattle.machine.specs.state.Answer.{numberOf};
+ghost use Rattle.machine.specs.state.Packed.{unpacked};
 ghost use Rattle.btt.specs.Calls.{span, putBack, bttInfoBlockOf, bttOpenOf, bttReadOf, bttStartOf, bttStepOf, bttWriteOf};
 ghost use Rattle.btt.specs.Calls.{bttLaneOf, bttNextStoreOf};
 ghost use Rattle.btt.specs.Gave as gave;
@@ -47,7 +46,7 @@ pub extern "C" fn btt_make(
     second: &[u8],
 ) -> u32
     ensures { λ r. ⌜ gave.made r (now (arena .exit))
-        ≡ makeOf (orderOf size sectors lanes (now (first .entry)) (now (second .entry))) (now (arena .entry)) ⌝ }
+        ≡ makeOf (wantedOf size sectors lanes (now (first .entry)) (now (second .entry))) (now (arena .entry)) ⌝ }
 {
     let answer = make(arena, size, sectors, lanes, first, second);
     answer.number()
@@ -88,7 +87,8 @@ pub extern "C" fn btt_open(
 // A cut opening: told k, it is refused as opening is, and else makes the first k of opening's stores; it gives no handle.
 #[no_mangle]
 pub extern "C" fn btt_cut_open(arena: &mut [u8], work: &mut [u8], k: u32, mended: &mut u32) -> u32
-    ensures { λ r. ⌜ gave.cut r (now (mended .exit)) (now (arena .exit)) (now (work .exit)) ≡ cutOpenOf (now (arena .entry)) (now (work .entry)) k ⌝ }
+    ensures { λ r. ⌜ gave.cut r (now (mended .exit)) (now (arena .exit)) (now (work .exit))
+        ≡ cutOpenOf alone (now (arena .entry)) (now (work .entry)) k ⌝ }
 {
     let opened = cut_open(arena, work, k);
     *mended = opened.mended;
@@ -99,11 +99,9 @@ pub extern "C" fn btt_cut_open(arena: &mut [u8], work: &mut [u8], k: u32, mended
 // Reads a sector into a buffer of a sector's length.
 #[no_mangle]
 pub extern "C" fn btt_read(arena: &[u8], handle: &[u8; 512], sector: u32, buffer: &mut [u8]) -> u32
-    ensures { λ r. ⌜ gave.read r (now (buffer .exit)) ≡ bttReadOf (now (arena .entry)) (now (handle .entry)) sector (now (buffer .entry)) ⌝ }
+    ensures { λ r. ⌜ gave.read r (now (buffer .exit))
+        ≡ bttReadOf (now (arena .entry)) (now (handle .entry)) sector (now (buffer .entry)) ⌝ }
 {
-    if !busy_ok(handle) {
-        return Answer::BadHandle.number();
-    }
     let h = handle_in(handle);
     let answer = read(arena, h, SectorNo(sector), buffer);
     answer.number()
@@ -111,8 +109,10 @@ pub extern "C" fn btt_read(arena: &[u8], handle: &[u8; 512], sector: u32, buffer
 
 // Puts a lane's record back into the handle's bytes if the call on it was accepted, and gives the answer's number.
 fn put_back(handle: &mut [u8; 512], lane: u32, stepped: Stepped) -> u32
-    requires { ⌜ (numberOf (stepped .answer) ≡ 0 → lane < 16) ⌝ }
-    ensures { λ r. ⌜ (r ≡ numberOf (stepped .answer)) × (now (handle .exit) ≡ putBack (now (handle .entry)) lane (stepGave stepped [])) ⌝ }
+    requires { ⌜ (numberOf (stepped .answer) ≡ 0
+        → (lane < stepped .handle .figures .lanes) × (stepped .handle .figures .lanes ≤ maxLanes)) ⌝ }
+    ensures { λ r. ⌜ (r ≡ numberOf (stepped .answer))
+        × (now (handle .exit) ≡ putBack (now (handle .entry)) lane (numberOf (stepped .answer)) (unpacked (stepped .handle) .lanes)) ⌝ }
 {
     let answer = stepped.answer;
     if !answer.is_done() {
@@ -128,11 +128,9 @@ fn put_back(handle: &mut [u8; 512], lane: u32, stepped: Stepped) -> u32
 // Starts a write to a sector on an idle lane; nothing is stored in the arena.
 #[no_mangle]
 pub extern "C" fn btt_start(arena: &[u8], handle: &mut [u8; 512], lane: u32, sector: u32) -> u32
-    ensures { λ r. ⌜ gave.outcome r (now (arena .entry)) (now (handle .exit)) ≡ bttStartOf (now (arena .entry)) (now (handle .entry)) lane sector ⌝ }
+    ensures { λ r. ⌜ gave.outcome r (now (arena .entry)) (now (handle .exit))
+        ≡ bttStartOf (now (arena .entry)) (now (handle .entry)) lane sector ⌝ }
 {
-    if !busy_ok(handle) {
-        return Answer::BadHandle.number();
-    }
     let h = handle_in(handle);
     put_back(
         handle,
@@ -152,9 +150,6 @@ pub extern "C" fn btt_step(
     ensures { λ r. ⌜ gave.outcome r (now (arena .exit)) (now (handle .exit))
         ≡ bttStepOf (now (arena .entry)) (now (handle .entry)) lane (now (buffer .entry)) ⌝ }
 {
-    if !busy_ok(handle) {
-        return Answer::BadHandle.number();
-    }
     let h = handle_in(handle);
     put_back(handle, lane, step(arena, h, LaneNo(lane), buffer))
 }
@@ -171,9 +166,6 @@ pub extern "C" fn btt_write(
     ensures { λ r. ⌜ gave.outcome r (now (arena .exit)) (now (handle .exit))
         ≡ bttWriteOf (now (arena .entry)) (now (handle .entry)) lane sector (now (buffer .entry)) ⌝ }
 {
-    if !busy_ok(handle) {
-        return Answer::BadHandle.number();
-    }
     let h = handle_in(handle);
     put_back(
         handle,
@@ -190,11 +182,9 @@ pub extern "C" fn btt_lane_record(
     lane: u32,
     out: &mut [u8; 28],
 ) -> u32
-    ensures { λ r. ⌜ gave.lane r (now (out .exit)) ≡ bttLaneOf (now (arena .entry)) (now (handle .entry)) lane (now (out .entry)) ⌝ }
+    ensures { λ r. ⌜ gave.lane r (now (out .exit))
+        ≡ bttLaneOf (now (arena .entry)) (now (handle .entry)) lane (now (out .entry)) ⌝ }
 {
-    if !busy_ok(handle) {
-        return Answer::BadHandle.number();
-    }
     let h = handle_in(handle);
     let answer = judge_lane(arena, h, LaneNo(lane));
     if !answer.is_done() {
@@ -214,11 +204,9 @@ pub extern "C" fn btt_next_store(
     lane: u32,
     offset: &mut u64,
 ) -> u32
-    ensures { λ r. ⌜ gave.next r (now (offset .exit)) ≡ bttNextStoreOf (now (arena .entry)) (now (handle .entry)) lane (now (offset .entry)) ⌝ }
+    ensures { λ r. ⌜ gave.next r (now (offset .exit))
+        ≡ bttNextStoreOf (now (arena .entry)) (now (handle .entry)) lane (now (offset .entry)) ⌝ }
 {
-    if !busy_ok(handle) {
-        return Answer::BadHandle.number();
-    }
     let h = handle_in(handle);
     let answer = judge_next(arena, h, LaneNo(lane));
     if !answer.is_done() {

@@ -6,7 +6,8 @@ use fletcher::fletcher64_of;
 use infoblock::is_sound;
 ghost use mathlib.Core.Path.{_≡_};
 ghost use lib.ListN.{length};
-ghost use Rattle.cases.specs.Table.{AllDue, table};
+ghost use Rattle.cases.specs.Table.{table};
+ghost use Rattle.cases.specs.Worked.{AllDue};
 
 // Cases 1 to 8: every value of the table is the one due.
 pub fn p_cases()

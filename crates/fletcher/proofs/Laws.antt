@@ -14,7 +14,7 @@ unfolding addedAll
 addedAll-append [] ys s = refl
 addedAll-append (x ∷ xs) ys s = addedAll-append xs ys (added s x)
 
-pub addedAll-snoc : (ws : List ℕ) (w : ℕ) (s : Sums) → addedAll s (ws ++ (w ∷ [])) ≡ added (addedAll s ws) w
+addedAll-snoc : (ws : List ℕ) (w : ℕ) (s : Sums) → addedAll s (ws ++ (w ∷ [])) ≡ added (addedAll s ws) w
 unfolding addedAll
 addedAll-snoc ws w s = addedAll-append ws (w ∷ []) s
 
@@ -31,7 +31,7 @@ pub added-small : (s : Sums) (w : ℕ) → Small (added s w)
 unfolding added
 added-small s w = (omega arith, omega arith)
 
-pub addedAll-small : (ws : List ℕ) (s : Sums) → Small s → Small (addedAll s ws)
+addedAll-small : (ws : List ℕ) (s : Sums) → Small s → Small (addedAll s ws)
 unfolding addedAll
 addedAll-small [] s h = h
 addedAll-small (w ∷ ws) s h = addedAll-small ws (added s w) (added-small s w)

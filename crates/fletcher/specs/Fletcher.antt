@@ -1,6 +1,6 @@
 -- Fletcher64: low = low + word, then high = high + low, both modulo 2^32 from 0; the value is high x 2^32 + low.
 use mathlib.Core.List.{List, [], _∷_, _++_}
-use Prim.Native.Nat.{ℕ, _+_, _*_, _%_, _^_}
+use Prim.Native.Nat.{ℕ, _+_, _%_, _^_}
 use Rattle.words.specs.Word.{wordsFrom, joined}
 use Rattle.fletcher.specs.declared.Sums.{Sums}
 

@@ -1,4 +1,6 @@
 // Fletcher64 over 32-bit words, and the checksum of an info block.
+pub mod claims;
+
 use words::join;
 use words::word_at;
 ghost use mathlib.Core.Path.{_≡_};

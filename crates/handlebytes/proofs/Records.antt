@@ -9,10 +9,10 @@ use lib.Seq.{set-at}
 use Rattle.words.specs.Word.{putWord, putWords}
 use Rattle.words.proofs.Runs.{putWords-append}
 use Rattle.layout.specs.declared.Figures.{Figures}
-use Rattle.machine.specs.Lane.{noLane}
-use Rattle.machine.specs.Handle.{laneAt}
+use Rattle.machine.specs.state.Lane.{noLane}
+use Rattle.machine.specs.state.Handle.{laneAt}
 use Rattle.machine.specs.declared.lane.Lane.{Lane}
-use Rattle.machine.proofs.Lanes.{listed, listed-length}
+use Rattle.machine.proofs.invariant.Lanes.{listed, listed-length}
 use Rattle.handlebytes.specs.Bytes.{
   recordAt,
   decodeRecord,
@@ -56,7 +56,8 @@ partly-all b = append-nil (decodeRecords b 16)
 
 -- seven words one after the other
 pub seven : (b : List ℕ) (i x0 x1 x2 x3 x4 x5 x6 : ℕ)
-    → putWord (putWord (putWord (putWord (putWord (putWord (putWord b i x0) (i + 1) x1) (i + 2) x2) (i + 3) x3) (i + 4) x4) (i + 5) x5) (i + 6) x6
+    → putWord (putWord (putWord (putWord (putWord (putWord (putWord b i x0) (i + 1) x1) (i + 2) x2) (i + 3) x3) (i + 4) x4) (i + 5) x5)
+    (i + 6) x6
     ≡ putWords b i (x0 ∷ x1 ∷ x2 ∷ x3 ∷ x4 ∷ x5 ∷ x6 ∷ [])
 unfolding putWords
 seven b i x0 x1 x2 x3 x4 x5 x6 =
@@ -68,7 +69,7 @@ seven b i x0 x1 x2 x3 x4 x5 x6 =
     let e6 : i + 6 ≡ suc (suc (suc (suc (suc (suc i))))) = omega arith in
     rw (e1, e2, e3, e4, e5, e6)
 
-pub length-records : (lanes : List Lane) (n : ℕ) → length (recordsWords lanes n) ≡ 7 * n
+length-records : (lanes : List Lane) (n : ℕ) → length (recordsWords lanes n) ≡ 7 * n
 unfolding recordsWords recordWords
 length-records lanes zero = refl
 length-records lanes (suc n) = length-append (recordsWords lanes n) (recordWords (laneAt lanes n)) ∙ omega (arith, length-records lanes n)

@@ -1,43 +1,31 @@
 -- Storing and decoding agree: a record is read back from where it was stored, and the words and records beside it are as they were.
 -- The bytes of a whole handle follow record by record.
-use mathlib.Core.Path.{_≡_, refl, sym, ap, _∙_}
+use mathlib.Core.Path.{_≡_, sym, ap, _∙_}
 use mathlib.Core.Logic.{_≢_, _⊎_, inl, inr, ⊎-elim}
-use mathlib.Core.Bool.{Bool, true, false, cond, _||_}
 use mathlib.Core.List.{List, [], _∷_}
-use Prim.Native.Nat.{ℕ, zero, suc, _+_, _*_, _≤_, _<_}
+use Prim.Native.Nat.{ℕ, suc, _+_, _*_, _≤_, _<_}
 use native.Mathlib.Omega.{arith}
 use native.Mathlib.Decide.{ℕ-discrete, decLt}
-use lib.Dec.{eqb, leb}
 use lib.ListN.{length, getD, set, length-set}
 use lib.Seq.{getD-set-same, getD-set-other, ext-getD}
-use borrow.Author.Tests.{lt-leb, leb-true}
 use Rattle.words.specs.Word.{word, wordsFrom, long, Bytes}
 use Rattle.words.proofs.Laws.{word-lt}
 use Rattle.words.proofs.Runs.{length-putWords, putWords-bytes, word-putWords-in, word-putWords-out}
 use Rattle.format.proofs.Below.{Below, below-nil, below-cons}
-use Rattle.format.proofs.Tests.{every-intro, every-elim}
-use Rattle.machine.specs.Lane.{noLane}
-use Rattle.machine.specs.Handle.{laneAt}
-use Rattle.machine.specs.Writing.{withLane}
+use Rattle.layout.specs.Figures.{figuresAt}
+use Rattle.machine.specs.state.Lane.{noLane}
+use Rattle.machine.specs.state.Handle.{laneAt}
 use Rattle.machine.specs.declared.lane.Lane.{Lane}
 use Rattle.machine.specs.declared.handle.Handle.{Handle}
-use Rattle.machine.proofs.Lanes.{lane-listed}
-use Rattle.handlebytes.specs.Bytes.{recordAt, decodeRecord, decodeRecords, decodeFigures, decodeHandle, busyOk, recordWords, putRecord}
-use Rattle.handlebytes.specs.Stands.{RecordFits, HandleFits, Stands}
+use Rattle.machine.proofs.invariant.Lanes.{lane-listed}
+use Rattle.handlebytes.specs.Bytes.{recordAt, decodeRecord, decodeRecords, decodeFigures, decodeHandle, recordWords, putRecord}
+use Rattle.handlebytes.specs.Stands.{RecordFits, HandleFits, Stands, withRecord}
 use Rattle.handlebytes.proofs.Records.{decode-listed, decode-length}
 
 abbrev pub limit : ℕ
 limit = 4294967296
 
 -- ---- one record
-
-flag-word : (t : Bool) → cond t 1 0 < limit
-flag-word true = omega arith
-flag-word false = omega arith
-
-flag-back : (t : Bool) → eqb (cond t 1 0) 1 ≡ t
-flag-back true = refl
-flag-back false = refl
 
 -- every number of a list is below the limit, one by one
 abbrev pub Each : List ℕ → Type 0
@@ -51,14 +39,14 @@ each-below (x ∷ xs) e = below-cons limit x xs (e .0) (each-below xs (e .1))
 record-below : (r : Lane) → RecordFits r → Below limit (recordWords r)
 unfolding recordWords
 record-below r f =
-    each-below (recordWords r) (flag-word (r .busy), (f .block, (f .half, (f .sequence, (f .sector, (f .old, (f .made, tt)))))))
+    each-below (recordWords r) (f .busy, (f .block, (f .half, (f .sequence, (f .sector, (f .old, (f .made, tt)))))))
 
 module _ (b : List ℕ) (i : ℕ) (r : Lane) where
   module _ (room : 4 * i + 28 ≤ length b) (f : RecordFits r) where
     put-word : (k : ℕ) → k < 7 → word (putRecord b i r) (i + k) ≡ getD (recordWords r) k 0
     put-word k u = word-putWords-in (recordWords r) b i k (unfold recordWords in (omega arith)) (record-below r f) (unfold recordWords in u)
 
-    pub first-word : word (putRecord b i r) i ≡ cond (r .busy) 1 0
+    first-word : word (putRecord b i r) i ≡ r .busy
     unfolding recordWords
     first-word = let e : i + 0 ≡ i = omega arith in rw e at (put-word 0 (omega arith))
 
@@ -73,10 +61,9 @@ module _ (b : List ℕ) (i : ℕ) (r : Lane) where
           put-word 4 (omega arith),
           put-word 5 (omega arith),
           put-word 6 (omega arith),
-          flag-back (r .busy),
         )
 
-  pub other-word : (j : ℕ) → (j < i) ⊎ (i + 7 ≤ j) → word (putRecord b i r) j ≡ word b j
+  other-word : (j : ℕ) → (j < i) ⊎ (i + 7 ≤ j) → word (putRecord b i r) j ≡ word b j
   unfolding recordWords
   other-word j h = word-putWords-out (recordWords r) b i j h
 
@@ -127,7 +114,7 @@ module _ (b b′ : List ℕ) (same : (k : ℕ) → k < 16 → word b′ k ≡ wo
   total-same = rw (same 0 (omega arith), same 1 (omega arith))
 
   figures-same : decodeFigures b′ ≡ decodeFigures b
-  unfolding decodeFigures long
+  unfolding figuresAt long
   figures-same =
       rw (
         same 2 (omega arith),
@@ -151,7 +138,7 @@ bytes-of : (b : List ℕ) (h : Handle) → Stands b h → Bytes b
 bytes-of b h s = record { words = rw (s .size); small = s .small }
 
 pub fits-back : (b : List ℕ) (h : Handle) → Stands b h → HandleFits h
-unfolding decodeHandle decodeFigures decodeRecord long
+unfolding decodeHandle figuresAt decodeRecord long
 fits-back b h s = rw (← s .is) (record {
   total = joint 0;
   figures = record {
@@ -167,6 +154,7 @@ fits-back b h s = rw (← s .is) (record {
   };
   records = decode-length b 16;
   lanes = λ l u. rw (lane-at b 16 l u) (record {
+    busy = one (recordAt l);
     block = one (recordAt l + 1);
     half = one (recordAt l + 2);
     sequence = one (recordAt l + 3);
@@ -181,14 +169,6 @@ fits-back b h s = rw (← s .is) (record {
 
     joint : (i : ℕ) → word b i + limit * word b (i + 1) < 18446744073709551616
     joint i = omega (arith, one i, one (i + 1))
-
-pub or-right : (x y : Bool) → y ≡ true → x || y ≡ true
-or-right true y e = refl
-or-right false y e = e
-
-pub flag-small : (t : Bool) → leb (cond t 1 0) 1 ≡ true
-flag-small true = refl
-flag-small false = refl
 
 module _ (b : List ℕ) (h : Handle) (l : ℕ) (r : Lane) (s : Stands b h) (u : l < 16) (f : RecordFits r) where
   after : List ℕ
@@ -213,56 +193,33 @@ module _ (b : List ℕ) (h : Handle) (l : ℕ) (r : Lane) (s : Stands b h) (u : 
           record-other b (recordAt l) r (recordAt m) (apart l m d) ∙ sym (lane-at b 16 m v)
           ∙ sym (getD-set-other (decodeRecords b 16) l m r noLane d)
 
-  after-busy : (m : ℕ) → m < 16 → (leb (word after 14) m || leb (word after (recordAt m)) 1) ≡ true
-  unfolding after busyOk
-  after-busy m v = go (ℕ-discrete m l)
-    where
-      go : Dec (m ≡ l) → (leb (word (putRecord b (recordAt l) r) 14) m || leb (word (putRecord b (recordAt l) r) (recordAt m)) 1) ≡ true
-      go (yes e) =
-          rw (e, first-word b (recordAt l) r room f, flag-small (r .busy)) (or-right (leb (word (putRecord b (recordAt l) r) 14) l) true refl)
-      go (no d) =
-          let w : word (putRecord b (recordAt l) r) (recordAt m) ≡ word b (recordAt m) =
-          other-word b (recordAt l) r (recordAt m) (⊎-elim (λ x. inl (omega arith)) (λ x. inr x) (apart l m d)) in
-          rw (kept-head 14 (omega arith), w) (every-elim 16 (λ i. leb (word b 14) i || leb (word b (recordAt i)) 1) (s .busy) m v)
-
-  pub stored-stands : Stands (putRecord b (recordAt l) r) (withLane h l r)
-  unfolding after busyOk decodeHandle
+  pub stored-stands : Stands (putRecord b (recordAt l) r) (withRecord h l r)
+  unfolding after decodeHandle
   stored-stands = record {
     size = length-putWords (recordWords r) b (recordAt l) ∙ s .size;
     small = putWords-bytes (recordWords r) b (recordAt l) (bytes-of b h s) .small;
-    busy = every-intro 16 (λ i. leb (word after 14) i || leb (word after (recordAt i)) 1) after-busy;
     is =
         rw (
           total-same b after kept-head,
           figures-same b after kept-head,
           decoded-is after 16 (set (decodeRecords b 16) l r) (rw (length-set, decode-length)) after-at,
         )
-        (ap (λ (x : Handle). withLane x l r) (s .is));
+        (ap (λ (x : Handle). withRecord x l r) (s .is));
   }
 
 -- ---- a lane's record stored again is the words it was decoded from
 
-flag-again : (w : ℕ) → w ≤ 1 → cond (eqb w 1) 1 0 ≡ w
-flag-again zero u = refl
-flag-again (suc zero) u = refl
-flag-again (suc (suc w)) u = absurd (omega arith)
-
-words-again : (b : List ℕ) (i : ℕ) → word b i ≤ 1 → recordWords (decodeRecord b i) ≡ wordsFrom b i 7
+words-again : (b : List ℕ) (i : ℕ) → recordWords (decodeRecord b i) ≡ wordsFrom b i 7
 unfolding recordWords decodeRecord wordsFrom
-words-again b i u =
+words-again b i =
     let e1 : i + 1 ≡ suc i = omega arith in
     let e2 : i + 2 ≡ suc (suc i) = omega arith in
     let e3 : i + 3 ≡ suc (suc (suc i)) = omega arith in
     let e4 : i + 4 ≡ suc (suc (suc (suc i))) = omega arith in
     let e5 : i + 5 ≡ suc (suc (suc (suc (suc i)))) = omega arith in
     let e6 : i + 6 ≡ suc (suc (suc (suc (suc (suc i))))) = omega arith in
-    rw (flag-again (word b i) u, e1, e2, e3, e4, e5, e6)
+    rw (e1, e2, e3, e4, e5, e6)
 
-pub record-again : (b : List ℕ) (h : Handle) (l : ℕ) → Stands b h → l < 16 → l < h .figures .lanes
-    → recordWords (laneAt (h .lanes) l) ≡ wordsFrom b (recordAt l) 7
-unfolding decodeHandle decodeFigures busyOk
-record-again b h l s u v =
-    let n : l < word b 14 = rw (← s .is) at v in
-    let t = every-elim 16 (λ i. leb (word b 14) i || leb (word b (recordAt i)) 1) (s .busy) l u in
-    let w : leb (word b (recordAt l)) 1 ≡ true = rw (lt-leb (word b 14) l n) at t in
-    rw (← s .is, lane-at b 16 l u) (words-again b (recordAt l) (leb-true _ _ w))
+pub record-again : (b : List ℕ) (h : Handle) (l : ℕ) → Stands b h → l < 16 → recordWords (laneAt (h .lanes) l) ≡ wordsFrom b (recordAt l) 7
+unfolding decodeHandle
+record-again b h l s u = rw (← s .is, lane-at b 16 l u) (words-again b (recordAt l))

@@ -1,21 +1,19 @@
 -- The bytes of a whole handle stand for it: its words are read back one by one, and its records one after the other.
 use mathlib.Core.Path.{_≡_, refl, sym, ap, _∙_}
-use mathlib.Core.Logic.{inl, inr, ⊎-elim}
-use mathlib.Core.Bool.{true, cond, _||_}
+use mathlib.Core.Logic.{inl}
 use mathlib.Core.List.{List, _++_}
 use Prim.Native.Nat.{ℕ, zero, suc, _+_, _*_, _/_, _%_, _≤_, _<_}
 use native.Mathlib.Omega.{arith}
 use native.Mathlib.Nat.{div-add-mod'}
 use native.Mathlib.Numerals.{add-one}
 use native.Mathlib.Decide.{ℕ-discrete}
-use lib.Dec.{leb}
 use lib.ListN.{length, getD, replicate, length-replicate}
 use Rattle.words.specs.Word.{word, long, putWords, Bytes}
 use Rattle.words.proofs.Runs.{length-putWords, putWords-append, putWords-bytes, word-putWords-in, word-putWords-out}
-use Rattle.format.specs.Tests.{every}
 use Rattle.format.proofs.Below.{Below, below-replicate}
-use Rattle.format.proofs.Tests.{every-intro}
-use Rattle.machine.specs.Handle.{noHandle, laneAt}
+use Rattle.layout.specs.Figures.{figuresAt}
+use Rattle.machine.specs.state.Handle.{laneAt}
+use Rattle.machine.specs.state.Packed.{zeroHandle}
 use Rattle.machine.specs.declared.lane.Lane.{Lane}
 use Rattle.machine.specs.declared.handle.Handle.{Handle}
 use Rattle.handlebytes.specs.Bytes.{
@@ -24,7 +22,6 @@ use Rattle.handlebytes.specs.Bytes.{
   decodeRecords,
   decodeFigures,
   decodeHandle,
-  busyOk,
   recordsWords,
   startWords,
   figureWords,
@@ -37,15 +34,11 @@ use Rattle.handlebytes.proofs.Records.{stored-more}
 use Rattle.handlebytes.proofs.Round.{
   limit,
   each-below,
-  first-word,
   record-same,
-  other-word,
   record-other,
   at,
   decoded-is,
   apart,
-  or-right,
-  flag-small,
 }
 
 module _ (h : Handle) (f : HandleFits h) where
@@ -113,11 +106,7 @@ module _ (h : Handle) (f : HandleFits h) where
   unfolding filled
   filled-more n = ap (λ (k : ℕ). putWords head 16 (recordsWords (h .lanes) k)) (sym (add-one n)) ∙ sym (stored-more head (h .lanes) n)
 
-  -- a record that is stored, and its busy word
-  abbrev Stored : List ℕ → ℕ → Type 0
-  Stored b l = (at b l ≡ laneAt (h .lanes) l) × (word b (recordAt l) ≡ cond (laneAt (h .lanes) l .busy) 1 0)
-
-  filled-at : (n : ℕ) → n ≤ 16 → (l : ℕ) → l < n → Stored (filled n) l
+  filled-at : (n : ℕ) → n ≤ 16 → (l : ℕ) → l < n → at (filled n) l ≡ laneAt (h .lanes) l
   filled-at zero v l u = absurd (omega arith)
   filled-at (suc n) v l u = rw (filled-more n) (go (ℕ-discrete l n) (λ w. filled-at n (omega arith) l w))
     where
@@ -127,16 +116,9 @@ module _ (h : Handle) (f : HandleFits h) where
       room : 4 * recordAt n + 28 ≤ length (filled n)
       room = rw (filled-length n) (omega arith)
 
-      go : Dec (l ≡ n) → (l < n → Stored (filled n) l) → Stored (putRecord (filled n) (recordAt n) r) l
-      go (yes e) ih =
-          let g = f .lanes n (omega arith) in
-          rw e (record-same (filled n) (recordAt n) r room g, first-word (filled n) (recordAt n) r room g)
-      go (no d) ih =
-          let p = ih (omega arith) in
-          let q = apart n l d in (
-            record-other (filled n) (recordAt n) r (recordAt l) q ∙ p .0,
-            other-word (filled n) (recordAt n) r (recordAt l) (⊎-elim (λ x. inl (omega arith)) (λ x. inr x) q) ∙ p .1,
-          )
+      go : Dec (l ≡ n) → (l < n → at (filled n) l ≡ laneAt (h .lanes) l) → at (putRecord (filled n) (recordAt n) r) l ≡ laneAt (h .lanes) l
+      go (yes e) ih = rw e (record-same (filled n) (recordAt n) r room (f .lanes n (omega arith)))
+      go (no d) ih = record-other (filled n) (recordAt n) r (recordAt l) (apart n l d) ∙ ih (omega arith)
 
   encode-filled : encodeHandle h ≡ filled 16
   unfolding encodeHandle handleWords filled head words startWords figureWords
@@ -156,7 +138,7 @@ module _ (h : Handle) (f : HandleFits h) where
   filled-total = filled-long 0 (h .length) (omega arith) refl refl
 
   filled-figures : decodeFigures (filled 16) ≡ h .figures
-  unfolding decodeFigures words startWords figureWords
+  unfolding figuresAt words startWords figureWords
   filled-figures =
       rw (
         filled-head 10 (omega arith),
@@ -170,10 +152,6 @@ module _ (h : Handle) (f : HandleFits h) where
         filled-long 8 (h .figures .copyoff) (omega arith) refl refl,
       )
 
-  filled-busy : (l : ℕ) → l < 16 → (leb (word (filled 16) 14) l || leb (word (filled 16) (recordAt l)) 1) ≡ true
-  filled-busy l u =
-      rw (filled-at 16 (omega arith) l u .1, flag-small (laneAt (h .lanes) l .busy)) (or-right (leb (word (filled 16) 14) l) true refl)
-
   filled-small : (j : ℕ) → getD (filled 16) j 0 < 256
   unfolding filled head
   filled-small =
@@ -181,15 +159,14 @@ module _ (h : Handle) (f : HandleFits h) where
       putWords-bytes (recordsWords (h .lanes) 16) _ 16 (putWords-bytes words (replicate 512 0) 0 z) .small
 
   pub encoded-stands : Stands (encodeHandle h) h
-  unfolding busyOk decodeHandle
+  unfolding decodeHandle
   encoded-stands = rw encode-filled (record {
     size = filled-length 16;
     small = filled-small;
-    busy = every-intro 16 (λ i. leb (word (filled 16) 14) i || leb (word (filled 16) (recordAt i)) 1) filled-busy;
     is =
-        rw (filled-total, filled-figures, decoded-is (filled 16) 16 (h .lanes) (f .records) (λ l u. filled-at 16 (omega arith) l u .0));
+        rw (filled-total, filled-figures, decoded-is (filled 16) 16 (h .lanes) (f .records) (filled-at 16 (omega arith)));
   })
 
-pub zeroes-stand : Stands (replicate 512 0) noHandle
-unfolding busyOk decodeHandle decodeFigures decodeRecords decodeRecord long word every
-zeroes-stand = record { size = refl; small = below-replicate 256 512 0 (omega arith); busy = refl; is = refl }
+pub zeroes-stand : Stands (replicate 512 0) zeroHandle
+unfolding decodeHandle figuresAt decodeRecords decodeRecord long word
+zeroes-stand = record { size = refl; small = below-replicate 256 512 0 (omega arith); is = refl }

@@ -1,16 +1,13 @@
 -- A handle as a host holds it: 512 bytes, here by word number. Slice length 0, starts of data, map, flog and copy 2, 4, 6 and 8,
 -- S 10, E 11, internal size 12, blocks 13, lanes 14, reserved 15, and from 16 on seven words for each of the 16 records.
-use mathlib.Core.Bool.{Bool, cond, _||_}
 use mathlib.Core.List.{List, [], _∷_, _++_}
 use Prim.Native.Nat.{ℕ, zero, suc, _+_, _*_}
-use lib.Dec.{eqb, leb}
 use lib.ListN.{replicate}
 use Rattle.words.specs.Word.{word, long, putWords}
-use Rattle.format.specs.Tests.{every}
 use Rattle.infoblock.specs.Info.{split}
-use Rattle.layout.specs.Figures.{maxLanes}
+use Rattle.layout.specs.Figures.{maxLanes, figuresAt}
 use Rattle.layout.specs.declared.Figures.{Figures}
-use Rattle.machine.specs.Handle.{laneAt}
+use Rattle.machine.specs.state.Handle.{laneAt}
 use Rattle.machine.specs.declared.lane.Lane.{Lane}
 use Rattle.machine.specs.declared.handle.Handle.{Handle}
 
@@ -32,7 +29,7 @@ recordAt l = headLength + recordLength * l
 -- the record whose first word is word i: busy, block, half, sequence, sector, old, stores made
 unfoldable pub decodeRecord : List ℕ → ℕ → Lane
 decodeRecord b i = record {
-  busy = eqb (word b i) 1;
+  busy = word b i;
   block = record { 0 = word b (i + 1) };
   half = word b (i + 2);
   sequence = record { 0 = word b (i + 3) };
@@ -46,29 +43,15 @@ unfoldable pub decodeRecords : List ℕ → ℕ → List Lane
 decodeRecords b zero = []
 decodeRecords b (suc l) = decodeRecords b l ++ (decodeRecord b (recordAt l) ∷ [])
 
-unfoldable pub decodeFigures : List ℕ → Figures
-decodeFigures b = record {
-  size = word b 10;
-  sectors = word b 11;
-  internal = word b 12;
-  blocks = word b 13;
-  lanes = word b 14;
-  dataoff = long b 2;
-  mapoff = long b 4;
-  flogoff = long b 6;
-  copyoff = long b 8;
-}
+abbrev pub decodeFigures : List ℕ → Figures
+decodeFigures b = figuresAt b 10 2
 
 unfoldable pub decodeHandle : List ℕ → Handle
 decodeHandle b = record { length = long b 0; figures = decodeFigures b; lanes = decodeRecords b maxLanes }
 
--- the busy word of every record below the lanes is 0 or 1
-unfoldable pub busyOk : List ℕ → Bool
-busyOk b = every maxLanes (λ l. leb (word b 14) l || leb (word b (recordAt l)) 1)
-
 -- the words of a record
 unfoldable pub recordWords : Lane → List ℕ
-recordWords r = cond (r .busy) 1 0 ∷ r .block .0 ∷ r .half ∷ r .sequence .0 ∷ r .sector .0 ∷ r .old .0 ∷ r .made ∷ []
+recordWords r = r .busy ∷ r .block .0 ∷ r .half ∷ r .sequence .0 ∷ r .sector .0 ∷ r .old .0 ∷ r .made ∷ []
 
 -- the words before the records: the length and the four starts, then the other figures; the reserved word is 0
 unfoldable pub startWords : ℕ → Figures → List ℕ

@@ -1,17 +1,16 @@
 -- Bytes that stand for a handle, and the claim that storing and decoding agree.
 use mathlib.Core.Path.{_≡_}
-use mathlib.Core.Bool.{true}
 use mathlib.Core.List.{List}
 use Prim.Native.Nat.{ℕ, _<_}
-use lib.ListN.{length, replicate}
+use lib.ListN.{length, set, replicate}
 use Rattle.layout.specs.Figures.{maxLanes}
 use Rattle.layout.specs.declared.Figures.{Figures}
-use Rattle.machine.specs.Handle.{noHandle, laneAt}
-use Rattle.machine.specs.Valid.{Small}
-use Rattle.machine.specs.Writing.{withLane}
+use Rattle.machine.specs.state.Handle.{laneAt}
+use Rattle.machine.specs.state.Packed.{zeroHandle}
+use Rattle.machine.specs.words.InBytes.{Small}
 use Rattle.machine.specs.declared.lane.Lane.{Lane}
 use Rattle.machine.specs.declared.handle.Handle.{Handle}
-use Rattle.handlebytes.specs.Bytes.{handleBytes, recordAt, decodeHandle, busyOk, putRecord, encodeHandle}
+use Rattle.handlebytes.specs.Bytes.{handleBytes, recordAt, decodeHandle, putRecord, encodeHandle}
 
 -- numbers of 32 and of 64 bits
 abbrev pub Fits32 : ℕ → Type 0
@@ -21,6 +20,7 @@ abbrev pub Fits64 : ℕ → Type 0
 Fits64 n = n < 18446744073709551616
 
 pub record RecordFits (r : Lane) : Type 0 where
+  pub busy : Fits32 (r .busy)
   pub block : Fits32 (r .block .0)
   pub half : Fits32 (r .half)
   pub sequence : Fits32 (r .sequence .0)
@@ -39,6 +39,10 @@ pub record FiguresFit (f : Figures) : Type 0 where
   pub flogoff : Fits64 (f .flogoff)
   pub copyoff : Fits64 (f .copyoff)
 
+-- the handle with record l replaced
+abbrev pub withRecord : Handle → ℕ → Lane → Handle
+withRecord h l r = record { length = h .length; figures = h .figures; lanes = set (h .lanes) l r }
+
 -- what the type of a handle gives of its numbers
 pub record HandleFits (h : Handle) : Type 0 where
   pub total : Fits64 (h .length)
@@ -46,20 +50,19 @@ pub record HandleFits (h : Handle) : Type 0 where
   pub records : length (h .lanes) ≡ maxLanes
   pub lanes : (l : ℕ) → l < maxLanes → RecordFits (laneAt (h .lanes) l)
 
--- 512 bytes whose busy words are in order, and that decode to the handle
+-- 512 bytes that decode to the handle
 pub record Stands (b : List ℕ) (h : Handle) : Type 0 where
   pub size : length b ≡ handleBytes
   pub small : Small b
-  pub busy : busyOk b ≡ true
   pub is : decodeHandle b ≡ h
 
 pub record BytesClaim : Type 0 where
   -- a handle's bytes stand for it
   pub encoded : (h : Handle) → HandleFits h → Stands (encodeHandle h) h
   -- so do those that a refused opening leaves
-  pub zeroes : Stands (replicate handleBytes 0) noHandle
+  pub zeroes : Stands (replicate handleBytes 0) zeroHandle
   -- a record stored in its place changes that record and nothing else
   pub stored : (b : List ℕ) (h : Handle) (l : ℕ) (r : Lane) → Stands b h → l < maxLanes → RecordFits r
-      → Stands (putRecord b (recordAt l) r) (withLane h l r)
+      → Stands (putRecord b (recordAt l) r) (withRecord h l r)
   -- what bytes stand for fits
   pub fits : (b : List ℕ) (h : Handle) → Stands b h → HandleFits h

@@ -3,19 +3,19 @@ use format::numbers::BlockNo;
 use format::numbers::SectorNo;
 use format::sequence::Sequence;
 use layout::Figures;
+use layout::figures_at;
 use machine::handle::Handle;
+use machine::handle::RECORDS;
 use machine::lane::Lane;
 use words::long_at;
 use words::put_long;
 use words::put_word;
 use words::word_at;
 ghost use mathlib.Core.Path.{_≡_};
-ghost use mathlib.Core.Bool.{cond, _||_};
-ghost use Prim.Native.Nat.{_+_, _*_, _≤_, _<_};
-ghost use lib.Dec.{leb};
+ghost use Prim.Native.Nat.{_+_, _*_, _≤_};
 ghost use lib.ListN.{length};
-ghost use Rattle.words.specs.Word.{word, putWords};
-ghost use Rattle.handlebytes.specs.Bytes.{recordAt, decodeRecord, decodeFigures, decodeHandle, busyOk};
+ghost use Rattle.words.specs.Word.{putWords};
+ghost use Rattle.handlebytes.specs.Bytes.{decodeRecord, decodeHandle};
 ghost use Rattle.handlebytes.specs.Bytes.{startWords, figureWords, handleWords, putRecord};
 
 pub mod claims;
@@ -31,7 +31,7 @@ fn record_in(b: &[u8], i: usize) -> Lane
     ensures { λ r. ⌜ r ≡ decodeRecord (now (b .entry)) i ⌝ }
 {
     Lane {
-        busy: word_at(b, i) == 1,
+        busy: word_at(b, i),
         block: BlockNo(word_at(b, i + 1)),
         half: word_at(b, i + 2),
         sequence: Sequence(word_at(b, i + 3)),
@@ -41,36 +41,19 @@ fn record_in(b: &[u8], i: usize) -> Lane
     }
 }
 
-// The figures of a handle.
-fn figures_in(b: &[u8; 512]) -> Figures
-    ensures { λ r. ⌜ r ≡ decodeFigures (now (b .entry)) ⌝ }
-{
-    Figures {
-        size: word_at(b, 10),
-        sectors: word_at(b, 11),
-        internal: word_at(b, 12),
-        blocks: word_at(b, 13),
-        lanes: word_at(b, 14),
-        dataoff: long_at(b, 2),
-        mapoff: long_at(b, 4),
-        flogoff: long_at(b, 6),
-        copyoff: long_at(b, 8),
-    }
-}
-
 // The handle that the bytes stand for.
 pub fn handle_in(b: &[u8; 512]) -> Handle
     ensures { λ r. ⌜ r ≡ decodeHandle (now (b .entry)) ⌝ }
 {
     let none = Lane::none();
-    let mut lanes = [none; 16];
+    let mut lanes = [none; RECORDS];
     let mut l: usize = 0;
-    while l < 16 {
+    while l < RECORDS {
         let found = record_in(b, HEAD + RECORD * l);
         lanes[l] = found;
         l += 1;
     }
-    let figures = figures_in(b);
+    let figures = figures_at(b, 10, 2);
     Handle {
         length: long_at(b, 0),
         figures: figures,
@@ -78,45 +61,12 @@ pub fn handle_in(b: &[u8; 512]) -> Handle
     }
 }
 
-// Whether lane l is not below the lanes or its busy word is 0 or 1.
-fn record_busy_ok(b: &[u8; 512], lanes: usize, l: usize) -> bool
-    requires { ⌜ l < 16 ⌝ }
-    ensures { λ r. ⌜ r ≡ (leb lanes l || leb (word (now (b .entry)) (recordAt l)) 1) ⌝ }
-{
-    if lanes <= l {
-        return true;
-    }
-    word_at(b, HEAD + RECORD * l) <= 1
-}
-
-// Whether the busy word of every record below the lanes is 0 or 1.
-pub fn busy_ok(b: &[u8; 512]) -> bool
-    ensures { λ r. ⌜ r ≡ busyOk (now (b .entry)) ⌝ }
-{
-    let lanes = word_at(b, 14) as usize;
-    let mut l: usize = 0;
-    while l < 16 {
-        if !record_busy_ok(b, lanes, l) {
-            return false;
-        }
-        l += 1;
-    }
-    true
-}
-
-// A flag as a word.
-fn flag(busy: bool) -> u32
-    ensures { λ r. ⌜ r ≡ cond busy 1 0 ⌝ }
-{
-    if busy { 1 } else { 0 }
-}
-
 // Stores a record from word i on.
 pub fn put_record(b: &mut [u8], i: usize, r: Lane)
     requires { ⌜ 4 * i + 28 ≤ length (now b) ⌝ }
     ensures { λ _. ⌜ now (b .exit) ≡ putRecord (now (b .entry)) i r ⌝ }
 {
-    put_word(b, i, flag(r.busy));
+    put_word(b, i, r.busy);
     put_word(b, i + 1, r.block.0);
     put_word(b, i + 2, r.half);
     put_word(b, i + 3, r.sequence.0);
@@ -157,7 +107,7 @@ pub fn put_handle(b: &mut [u8; 512], h: Handle)
     put_starts(b, h.length, h.figures);
     put_figures(b, h.figures);
     let mut l: usize = 0;
-    while l < 16 {
+    while l < RECORDS {
         let r = h.lanes[l];
         put_record(b, HEAD + RECORD * l, r);
         l += 1;

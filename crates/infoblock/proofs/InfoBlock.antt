@@ -1,6 +1,6 @@
 -- The info block that counts depends on the first and the last 4,096 bytes alone, and is empty or sound.
 -- Bytes are compared word by word.
-use mathlib.Core.Path.{_≡_, refl, sym, ap, ap₂, _∙_}
+use mathlib.Core.Path.{_≡_, refl, sym, ap₂, _∙_}
 use mathlib.Core.Logic.{_⊎_, inl, inr}
 use mathlib.Core.Bool.{Bool, true, false, cond}
 use mathlib.Core.List.{List, []}
@@ -8,14 +8,13 @@ use Prim.Native.Nat.{ℕ, _+_, _-_, _*_, _/_, _%_, _≤_, _<_}
 use native.Mathlib.Omega.{arith}
 use lib.Dec.{eqb, leb}
 use lib.ListN.{length, getD, take, drop, length-take, length-drop}
-use lib.Seq.{getD-take}
 use borrow.Author.Tests.{eqb-true, leb-true, eq-eqb, le-leb}
 use Rattle.words.specs.Word.{word, long}
 use Rattle.words.proofs.Laws.{ext-word, word-take, word-drop}
 use Rattle.fletcher.specs.Fletcher.{blockChecksum}
 use Rattle.layout.specs.Figures.{lengthAllowed}
-use Rattle.infoblock.specs.Info.{signature, signed, sound, countingOf, infoBlockOf}
-use Rattle.format.proofs.Tests.{and-elim, by-bool, every-elim, every-intro}
+use Rattle.infoblock.specs.Info.{signature, signed, sound, countsOf, countingOf, infoBlockOf}
+use Rattle.format.proofs.Tests.{and-elim, by-bool, every-intro}
 use Rattle.format.proofs.Below.{Below, below-take, below-drop, below-test}
 
 -- rule 1 as a test and in words
@@ -41,7 +40,7 @@ take-same a b n z ha hb f g w =
     (λ i h. let k : 4 * i + 4 ≤ n = rw la at h in word-take a n i k ∙ w i k ∙ sym (word-take b n i k))
 
 -- the bytes from word k on, by their words
-pub drop-same : (a b : List ℕ) (k : ℕ) → length a % 4 ≡ 0 → length a ≡ length b → Below 256 a → Below 256 b
+drop-same : (a b : List ℕ) (k : ℕ) → length a % 4 ≡ 0 → length a ≡ length b → Below 256 a → Below 256 b
     → ((i : ℕ) → word a (k + i) ≡ word b (k + i)) → drop (4 * k) a ≡ drop (4 * k) b
 drop-same a b k z e f g w =
     ext-word (drop (4 * k) a) (drop (4 * k) b)
@@ -82,6 +81,39 @@ pub counting-none : (main copy : List ℕ) → sound main ≡ false → sound co
 unfolding countingOf
 counting-none main copy e f = rw (e, f)
 
+-- the number of the block that counts, by the two tests
+abbrev counted : Bool → Bool → ℕ
+counted t u = cond t 0 (cond u 1 2)
+
+counted-of : (t u : Bool) → (counted t u ≡ 0 → t ≡ true) × (counted t u ≡ 1 → (t ≡ false) × (u ≡ true))
+    × (counted t u ≡ 2 → (t ≡ false) × (u ≡ false))
+counted-of true u = (λ e. refl, λ e. absurd (omega arith), λ e. absurd (omega arith))
+counted-of false true = (λ e. absurd (omega arith), λ e. (refl, refl), λ e. absurd (omega arith))
+counted-of false false = (λ e. absurd (omega arith), λ e. absurd (omega arith), λ e. (refl, refl))
+
+-- what that number says of the two blocks
+module _ (main copy : List ℕ) where
+  main-counts : countsOf main copy ≡ 0 → sound main ≡ true
+  unfolding countsOf
+  main-counts e = counted-of (sound main) (sound copy) .0 e
+
+  copy-counts : countsOf main copy ≡ 1 → (sound main ≡ false) × (sound copy ≡ true)
+  unfolding countsOf
+  copy-counts e = counted-of (sound main) (sound copy) .1 e
+
+  pub none-counts : countsOf main copy ≡ 2 → (sound main ≡ false) × (sound copy ≡ false)
+  unfolding countsOf
+  none-counts e = counted-of (sound main) (sound copy) .2 e
+
+  -- the block itself, by that number
+  pub counts-as : (countsOf main copy ≡ 0 → countingOf main copy ≡ main) × (countsOf main copy ≡ 1 → countingOf main copy ≡ copy)
+      × (countsOf main copy ≡ 2 → countingOf main copy ≡ [])
+  counts-as = (
+    λ e. counting-main main copy (main-counts e),
+    λ e. counting-copy main copy (copy-counts e .0) (copy-counts e .1),
+    λ e. counting-none main copy (none-counts e .0) (none-counts e .1),
+  )
+
 pub info-in : (a : List ℕ) → lengthAllowed (length a) ≡ true → infoBlockOf a ≡ countingOf (take 4096 a) (drop (length a - 4096) a)
 unfolding infoBlockOf
 info-in a e = rw e
@@ -120,14 +152,6 @@ info-size a = go (lengthAllowed (length a)) (sound (take 4096 a)) refl (sound (d
 
 pub signature-small : Below 256 signature
 signature-small = below-test 256 signature (omega arith) refl
-
--- signed, byte by byte
-pub signed-bytes : (b : List ℕ) → 16 ≤ length b → Below 256 b → signed b ≡ true → (k : ℕ) → k < 16 → getD b k 0 ≡ getD signature k 0
-unfolding signed
-signed-bytes b h f e k u =
-    let s : take 16 b ≡ take 16 signature = take-same b signature 16 refl h (omega arith) f signature-small
-    (λ i v. eqb-true _ _ (every-elim 4 (λ j. eqb (word b j) (word signature j)) e i (omega arith))) in
-    sym (getD-take 16 b k 0 u) ∙ ap (λ (l : List ℕ). getD l k 0) s
 
 signature-word : (b : List ℕ) → ((k : ℕ) → k < 16 → getD b k 0 ≡ getD signature k 0) → (i : ℕ) → i < 4 → word b i ≡ word signature i
 unfolding word

@@ -11,7 +11,7 @@ use Rattle.words.proofs.Runs.{putWords-append, putWords-snoc, wordsFrom-putWord
 use Rattle.fletcher.specs.Fletcher.{added, addedAll, valueOf, fletcher64}
 use Rattle.fletcher.proofs.Laws.{addedAll-append}
 use Rattle.fletcher.specs.declared.Sums.{Sums}
-use Rattle.infoblock.specs.Info.{headWords, bodyWords, madeChecksum, infoWords}
+use Rattle.infoblock.specs.Info.{headWords, bodyWords, freshChecksum, infoWords}
 use Rattle.infoblock.proofs.Signed.{signature-word}
 use Rattle.layout.specs.declared.Figures.{Figures}
 
@@ -102,7 +102,7 @@ module _ (a first second head a1 a2 a3 : List ℕ) (i v : ℕ) (f : Figures) (s0
       → a1 ≡ putWords a i head → a2 ≡ putWords a1 (i + 30) (replicate 992 0)
       → s0 ≡ record { low = 0; high = 0 } → s1 ≡ addedAll s0 (wordsFrom a2 i 1022) → s2 ≡ added s1 0 → s3 ≡ added s2 0
       → v ≡ valueOf s3 → a3 ≡ putLong a2 (i + 1022) v → a3 ≡ putWords a i (infoWords first second f)
-  unfolding infoWords madeChecksum
+  unfolding infoWords freshChecksum
   info-stored h b e e1 e2 t0 t1 t2 t3 w e3 =
       let l : length head ≡ 30 = rw e (head-length first second f) in
       let r : a2 ≡ putWords a i (head ++ replicate 992 0) = rw (e2, e1) (put-both head (replicate 992 0) a i 30 l) in
@@ -110,5 +110,5 @@ module _ (a first second head a1 a2 a3 : List ℕ) (i v : ℕ) (f : Figures) (s0
       let n = body-length first second f in
       let m = append-small (headWords first second f) (replicate 992 0) (rw e at b) (zeros-small 992) in
       let d = sum-read (bodyWords first second f) a i 1022 n (omega arith) m in
-      let c : v ≡ madeChecksum first second f = w ∙ rw (t3, t2, t1, t0, q) d in
-      e3 ∙ rw (q, c) (put-sum (bodyWords first second f) a i 1022 (madeChecksum first second f) n)
+      let c : v ≡ freshChecksum first second f = w ∙ rw (t3, t2, t1, t0, q) d in
+      e3 ∙ rw (q, c) (put-sum (bodyWords first second f) a i 1022 (freshChecksum first second f) n)

@@ -2,14 +2,17 @@
 -- blocks 17, lanes 18, info size 19, next arena 20, starts of data, map, flog and copy 22, 24, 26, 28, checksum 1,022.
 use mathlib.Core.Bool.{Bool, cond, _&&_}
 use mathlib.Core.List.{List, [], _∷_, _++_}
-use Prim.Native.Nat.{ℕ, _+_, _-_, _*_, _/_, _%_}
+use Prim.Native.Nat.{ℕ, _+_, _-_, _/_, _%_}
 use lib.Dec.{eqb}
 use lib.ListN.{length, take, drop, replicate}
-use Rattle.words.specs.Word.{word, wordsFrom, long}
+use Rattle.words.specs.Word.{word, long}
 use Rattle.fletcher.specs.Fletcher.{fletcher64, blockChecksum}
 use Rattle.format.specs.Tests.{allOf, every}
-use Rattle.layout.specs.Figures.{figuresAllowed, lengthAllowed}
+use Rattle.layout.specs.Figures.{figuresAllowed, figuresAt, lengthAllowed}
 use Rattle.layout.specs.declared.Figures.{Figures}
+use Rattle.layout.specs.declared.Told.{Told}
+use Rattle.infoblock.specs.declared.Counts.{Counts}
+use Rattle.infoblock.specs.declared.Counts.the-variants.{Main, Copy, Neither}
 
 -- BTT_ARENA_INFO and two zero bytes
 abbrev pub signature : List ℕ
@@ -22,6 +25,16 @@ signed b = every 4 (λ k. eqb (word b k) (word signature k))
 unfoldable pub sound : List ℕ → Bool
 sound b = eqb (length b) 4096 && (signed b && eqb (long b 1022) (blockChecksum b))
 
+-- which of two blocks counts: the first (0) if sound, else the copy (1) if sound, else neither (2)
+unfoldable pub countsOf : List ℕ → List ℕ → ℕ
+countsOf main copy = cond (sound main) 0 (cond (sound copy) 1 2)
+
+-- which block the enum names
+abbrev pub countsNumber : Counts → ℕ
+countsNumber Main = 0
+countsNumber Copy = 1
+countsNumber Neither = 2
+
 -- the block that counts: the first if sound, else the copy if sound, else no bytes
 unfoldable pub countingOf : List ℕ → List ℕ → List ℕ
 countingOf main copy = cond (sound main) main (cond (sound copy) copy [])
@@ -33,27 +46,21 @@ infoBlockOf a = cond (lengthAllowed (length a)) (countingOf (take 4096 a) (drop 
 abbrev pub flagsField : List ℕ → ℕ
 flagsField b = word b 12
 
+-- flags 0
+abbrev pub flagsAllowed : List ℕ → Bool
+flagsAllowed b = eqb (flagsField b) 0
+
 -- the figures of a block that its handle keeps
 unfoldable pub figuresOf : List ℕ → Figures
-figuresOf b = record {
-  size = word b 14;
-  sectors = word b 15;
-  internal = word b 16;
-  blocks = word b 17;
-  lanes = word b 18;
-  dataoff = long b 22;
-  mapoff = long b 24;
-  flogoff = long b 26;
-  copyoff = long b 28;
-}
+figuresOf b = figuresAt b 14 22
 
--- version 2 and 0, info size 4,096, next arena 0
-unfoldable pub headerAllowed : List ℕ → Bool
-headerAllowed b = allOf (eqb (word b 13 % 65536) 2 ∷ eqb (word b 13 / 65536) 0 ∷ eqb (word b 19) 4096 ∷ eqb (long b 20) 0 ∷ [])
+-- version 2 and 0, info size 4,096, and that next arena
+unfoldable pub headerAllowed : ℕ → List ℕ → Bool
+headerAllowed next b = allOf (eqb (word b 13 % 65536) 2 ∷ eqb (word b 13 / 65536) 0 ∷ eqb (word b 19) 4096 ∷ eqb (long b 20) next ∷ [])
 
--- no figure of the table is forbidden, flags apart
-abbrev pub infoAllowed : List ℕ → ℕ → Bool
-infoAllowed b length = headerAllowed b && figuresAllowed (figuresOf b) length
+-- no figure of the table is forbidden, flags apart, for an opening that is told t
+abbrev pub infoAllowed : Told → List ℕ → ℕ → Bool
+infoAllowed t b length = headerAllowed (t .next) b && figuresAllowed (figuresOf b) length
 
 -- a 64-bit number as two words
 abbrev pub split : ℕ → List ℕ → List ℕ
@@ -73,9 +80,9 @@ abbrev pub bodyWords : List ℕ → List ℕ → Figures → List ℕ
 bodyWords first second f = headWords first second f ++ replicate 992 0
 
 -- the checksum that a made block carries
-unfoldable pub madeChecksum : List ℕ → List ℕ → Figures → ℕ
-madeChecksum first second f = fletcher64 (bodyWords first second f ++ (0 ∷ 0 ∷ []))
+unfoldable pub freshChecksum : List ℕ → List ℕ → Figures → ℕ
+freshChecksum first second f = fletcher64 (bodyWords first second f ++ (0 ∷ 0 ∷ []))
 
 -- the 1,024 words of a made info block
 unfoldable pub infoWords : List ℕ → List ℕ → Figures → List ℕ
-infoWords first second f = bodyWords first second f ++ split (madeChecksum first second f) []
+infoWords first second f = bodyWords first second f ++ split (freshChecksum first second f) []

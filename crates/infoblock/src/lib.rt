@@ -1,8 +1,12 @@
-// The info block: sound or not, which of two counts, its figures, and a made one.
+// The info block: sound or not, which of two counts, its figures, and a made one. No other crate reads its words.
+pub mod claims;
+
 use fletcher::Sums;
 use fletcher::block_checksum;
 use layout::Figures;
+use layout::Told;
 use layout::figures_allowed;
+use layout::figures_at;
 use words::long_at;
 use words::put_long;
 use words::put_word;
@@ -12,7 +16,8 @@ ghost use mathlib.Core.Path.{_≡_};
 ghost use Prim.Native.Nat.{_+_, _*_, _/_, _%_, _≤_, _<_};
 ghost use lib.ListN.{length};
 ghost use Rattle.words.specs.Word.{putWords};
-ghost use Rattle.infoblock.specs.Info.{signed, sound, countingOf, figuresOf, headerAllowed, infoAllowed, headWords, infoWords};
+ghost use Rattle.infoblock.specs.Info.{signed, sound, countsOf, countsNumber, countingOf, flagsAllowed, figuresOf};
+ghost use Rattle.infoblock.specs.Info.{headerAllowed, infoAllowed, headWords, infoWords};
 
 // BTT_ARENA_INFO and two zero bytes, as words.
 const SIGNATURE: [u32; 4] = [0x5F54_5442, 0x4E45_5241, 0x4E49_5F41, 0x0000_4F46];
@@ -45,17 +50,49 @@ pub fn is_sound(b: &[u8]) -> bool
     long_at(b, 1022) == block_checksum(b)
 }
 
-// The block that counts, as the caller's own bytes: the first if sound, else the copy if sound, else no bytes.
+// Which of two blocks counts.
+pub enum Counts {
+    Main,
+    Copy,
+    Neither,
+}
+
+// The first if sound, else the copy if sound, else neither.
+pub fn which_counts(main: &[u8], copy: &[u8]) -> Counts
+    ensures { λ r. ⌜ countsNumber r ≡ countsOf (now (main .entry)) (now (copy .entry)) ⌝ }
+{
+    if is_sound(main) {
+        return Counts::Main;
+    }
+    if is_sound(copy) {
+        return Counts::Copy;
+    }
+    Counts::Neither
+}
+
+// The block that counts, as the caller's own bytes; no bytes where neither does.
 pub fn counting<'a>(main: &'a [u8], copy: &'a [u8]) -> &'a [u8]
     ensures { λ r. ⌜ now r ≡ countingOf (now (main .entry)) (now (copy .entry)) ⌝ }
 {
-    if is_sound(main) {
-        return main;
+    match which_counts(main, copy) {
+        Counts::Main => {
+            return main;
+        }
+        Counts::Copy => {
+            return copy;
+        }
+        Counts::Neither => {
+            return &main[..0];
+        }
     }
-    if is_sound(copy) {
-        return copy;
-    }
-    &main[..0]
+}
+
+// Whether a block's flags are allowed.
+pub fn flags_allowed(b: &[u8]) -> bool
+    requires { ⌜ 4096 ≤ length (now b) ⌝ }
+    ensures { λ r. ⌜ r ≡ flagsAllowed (now (b .entry)) ⌝ }
+{
+    word_at(b, 12) == 0
 }
 
 // The figures of a block.
@@ -63,23 +100,13 @@ pub fn figures_of(b: &[u8]) -> Figures
     requires { ⌜ 4096 ≤ length (now b) ⌝ }
     ensures { λ r. ⌜ r ≡ figuresOf (now (b .entry)) ⌝ }
 {
-    Figures {
-        size: word_at(b, 14),
-        sectors: word_at(b, 15),
-        internal: word_at(b, 16),
-        blocks: word_at(b, 17),
-        lanes: word_at(b, 18),
-        dataoff: long_at(b, 22),
-        mapoff: long_at(b, 24),
-        flogoff: long_at(b, 26),
-        copyoff: long_at(b, 28),
-    }
+    figures_at(b, 14, 22)
 }
 
-// Whether version, info size and next arena are allowed.
-fn header_allowed(b: &[u8]) -> bool
+// Whether version and info size are allowed, and the next arena is the one given.
+fn header_allowed(b: &[u8], next: u64) -> bool
     requires { ⌜ 4096 ≤ length (now b) ⌝ }
-    ensures { λ r. ⌜ r ≡ headerAllowed (now (b .entry)) ⌝ }
+    ensures { λ r. ⌜ r ≡ headerAllowed next (now (b .entry)) ⌝ }
 {
     let version = word_at(b, 13);
     if version % 65536 != 2 {
@@ -91,15 +118,15 @@ fn header_allowed(b: &[u8]) -> bool
     if word_at(b, 19) != 4096 {
         return false;
     }
-    long_at(b, 20) == 0
+    long_at(b, 20) == next
 }
 
 // Rule 3: whether every figure of the table is allowed, flags apart.
-pub fn info_allowed(b: &[u8], total: usize) -> bool
+pub fn info_allowed(b: &[u8], told: Told, total: usize) -> bool
     requires { ⌜ (4096 ≤ length (now b)) × (total ≤ 16777216) ⌝ }
-    ensures { λ r. ⌜ r ≡ infoAllowed (now (b .entry)) total ⌝ }
+    ensures { λ r. ⌜ r ≡ infoAllowed told (now (b .entry)) total ⌝ }
 {
-    if !header_allowed(b) {
+    if !header_allowed(b, told.next) {
         return false;
     }
     figures_allowed(figures_of(b), total)

@@ -1,80 +1,127 @@
--- Opening's rules one by one: what each test leaves of the number.
-use mathlib.Core.Path.{_≡_, sym, ap, _∙_}
-use mathlib.Core.Logic.{⊎-elim}
-use mathlib.Core.Bool.{Bool, true, false, cond, not}
-use mathlib.Core.List.{List}
+-- Opening's order in the parts in which it is judged: rules 1 to 4, 5, and 6 to 8; and what each part leaves of the number, the figures
+-- and the work buffer.
+use mathlib.Core.Path.{_≡_, refl, sym, _∙_}
+use mathlib.Core.Bool.{true, false, cond, not}
+use mathlib.Core.List.{List, [], _∷_}
 use Prim.Native.Nat.{ℕ, _≤_, _<_}
-use native.Mathlib.Omega.{arith}
 use lib.Dec.{eqb}
-use lib.ListN.{length, getD}
-use borrow.Author.Tests.{eq-eqb, ne-eqb}
-use Rattle.format.specs.Tests.{every, some}
-use Rattle.format.specs.MapWord.{badWord}
-use Rattle.layout.specs.Figures.{lengthAllowed}
-use Rattle.layout.specs.Place.{Layout, LayoutOk, layoutOf}
-use Rattle.infoblock.specs.Info.{infoBlockOf, infoAllowed, flagsField}
-use Rattle.layout.specs.declared.Figures.{Figures}
-use Rattle.infoblock.proofs.InfoBlock.{info-size}
-use Rattle.format.proofs.Tests.{every-elim}
-use Rattle.machine.specs.Flog.{mapWord}
-use Rattle.machine.specs.Handle.{noFigures}
-use Rattle.machine.specs.Opening.{figuresIn, laneReadable}
-use Rattle.machine.proofs.Stores.{Arena}
-use Rattle.machine.proofs.Spare.{rule8}
+use lib.ListN.{length}
+use borrow.Author.Tests.{eqb-true, lt-ltb, le-ltb, not-false}
 use Rattle.layout.specs.Fit.{Fit}
-use Rattle.marks.specs.Marks.{blocksOnce}
-use Rattle.judge.specs.Judge.{figuresNumber, blockNumber, infoNumber, judgedFigures, mapNumber}
+use Rattle.layout.specs.Place.{layoutOf}
+use Rattle.layout.specs.declared.Figures.{Figures}
+use Rattle.layout.specs.declared.Told.{Told}
+use Rattle.layout.proofs.Allowed.{fit-of}
+use Rattle.infoblock.proofs.InfoBlock.{length-of}
+use Rattle.machine.specs.Rules.{answer}
+use Rattle.machine.specs.state.Handle.{noFigures, ToldOk}
+use Rattle.machine.specs.calls.Opening.{
+  OpenRule,
+  shortWork,
+  numberOpen,
+  testsOpen,
+  infoRules,
+  aloneRules,
+  mapRules,
+  openNumber,
+  workAfter,
+  figuresIn,
+  layoutIn,
+  lanesLost,
+  unsettled,
+}
+use Rattle.machine.specs.words.InBytes.{Small}
+use Rattle.machine.proofs.rules.Rules.{walked, stop, pass, through, passed-all, answer-append}
+use Rattle.machine.proofs.opening.Described.{Described, described-figures, told-distance}
+use Rattle.machine.proofs.opening.Opens.{some-number-open, lanes-pass}
+use Rattle.machine.proofs.opening.Spare.{rule8}
+use Rattle.lanes.proofs.Lanes.{fit-arena}
+use Rattle.once.specs.Once.{cleared, blocksOnce}
+use Rattle.judge.specs.Judge.{judgedFigures}
 
--- rules 2 to 4, of a block b and a length n
-module _ (b : List ℕ) (n : ℕ) where
-  pub no-block : length b ≡ 0 → blockNumber b n ≡ 2
-  unfolding blockNumber
-  no-block e = rw (eq-eqb (length b) 0 e)
+-- an arena that passes rules 1 to 4 fits its figures
+pub described-fit : (t : Told) → ToldOk t → (a : List ℕ) → Described t a → Fit (t .distance) (figuresIn a) (length a)
+described-fit t told a d =
+    let n = length-of (length a) (d .size) in
+    fit-of (t .distance) (told-distance (t .distance) told) (figuresIn a) (length a) (described-figures t told a d) (n .0) (n .2)
 
-  pub block-figures : (length b ≡ 0 → ⊥) → blockNumber b n ≡ figuresNumber (infoAllowed b n) (eqb (flagsField b) 0)
-  unfolding blockNumber figuresNumber
-  block-figures e = rw (ne-eqb (length b) 0 e)
+-- rule 8 as the counts decide it
+pub once-or-not : (d : ℕ) (f : Figures) (a : List ℕ) → Fit d f (length a) → Small a → lanesLost (layoutOf d f) a ≡ false
+    → unsettled (layoutOf d f) a ≡ not (blocksOnce (layoutOf d f) a)
+unfolding blocksOnce
+once-or-not d f a t small e =
+    let g = layoutOf d f in
+    rule8 g (t .ok) a (fit-arena d f a t small) (lanes-pass g a e)
 
-  pub has-bytes : blockNumber b n ≡ 0 → length b ≡ 0 → ⊥
-  has-bytes e z = let q : _≡_ {A = ℕ} 0 2 = sym e ∙ no-block z in omega arith
+module _ (t : Told) (a : List ℕ) (room : ℕ) where
+  -- the number that a part of the order gives
+  abbrev answered : List OpenRule → ℕ
+  answered rs = answer numberOpen (testsOpen t a room) rs
 
--- the block that counts is whole, if there is one
-pub block-whole : (a b : List ℕ) → b ≡ infoBlockOf a → (length b ≡ 0 → ⊥) → 4096 ≤ length b
-block-whole a b e h =
-    ⊎-elim (λ z. absurd (h (ap length (e ∙ z)))) (λ s. omega (arith, ap length e, s .0)) (info-size a)
+  info-passed : answered infoRules ≡ 0 → Described t a
+  info-passed e =
+      let p = passed-all numberOpen some-number-open (testsOpen t a room) infoRules e in
+      record { size = not-false _ (p .0); block = p .1 .0; allowed = not-false _ (p .1 .1 .0); flags = not-false _ (p .1 .1 .1 .0) }
 
--- rules 1 to 4
-module _ (a : List ℕ) where
-  pub wrong-length : lengthAllowed (length a) ≡ false → (infoNumber a ≡ 1) × (judgedFigures a ≡ noFigures)
-  unfolding infoNumber judgedFigures
-  wrong-length e = (rw e, rw e)
+  alone-answer : answered aloneRules ≡ cond (eqb (answered infoRules) 0) (answered (shortWork ∷ [])) (answered infoRules)
+  alone-answer = answer-append numberOpen some-number-open (testsOpen t a room) infoRules (shortWork ∷ [])
 
-  pub info-number : (b : List ℕ) (m : ℕ) → lengthAllowed (length a) ≡ true → b ≡ infoBlockOf a → m ≡ blockNumber b (length a) → m ≡ infoNumber a
-  unfolding infoNumber
-  info-number b m e p q = rw (e, ← p) q
+  open-answer : openNumber t a room ≡ cond (eqb (answered aloneRules) 0) (answered mapRules) (answered aloneRules)
+  unfolding openNumber
+  open-answer = answer-append numberOpen some-number-open (testsOpen t a room) aloneRules mapRules
 
-  pub figures-none : (m : ℕ) → m ≡ infoNumber a → eqb m 0 ≡ false → judgedFigures a ≡ noFigures
-  unfolding judgedFigures
-  figures-none m e p = rw (← e, p)
+-- what judging gives: a number, figures, and the work buffer as it is left
+pub record Ends (t : Told) (a work : List ℕ) (n : ℕ) (f : Figures) (left : List ℕ) : Type 0 where
+  pub number : n ≡ openNumber t a (length work)
+  pub figures : f ≡ judgedFigures (openNumber t a (length work)) a
+  pub buffer : left ≡ workAfter t a work
 
-  pub figures-some : (m : ℕ) → m ≡ infoNumber a → eqb m 0 ≡ true → judgedFigures a ≡ figuresIn a
-  unfolding judgedFigures
-  figures-some m e p = rw (← e, p)
+module _ (t : Told) (a work : List ℕ) (n : ℕ) where
+  -- a rule before the work buffer's use applies
+  alone-refuses : n ≡ answered t a (length work) aloneRules → eqb n 0 ≡ false → Ends t a work n noFigures work
+  unfolding workAfter
+  alone-refuses e z =
+      let m : n ≡ openNumber t a (length work) = e ∙ sym (open-answer t a (length work) ∙ rw (← e, z)) in
+      record { number = m; figures = rw (← m, z); buffer = rw (← e, z) }
 
--- rules 6 to 8
-module _ (g : Layout) (a : List ℕ) where
-  pub lost-lane : every (g .N) (laneReadable g a) ≡ false → mapNumber g a ≡ 6
-  unfolding mapNumber
-  lost-lane e = rw e
+  pub info-refuses : n ≡ answered t a (length work) infoRules → eqb n 0 ≡ false → Ends t a work n noFigures work
+  info-refuses e z = alone-refuses (e ∙ sym (alone-answer t a (length work) ∙ rw (← e, z))) z
 
-  pub bad-map-word : every (g .N) (laneReadable g a) ≡ true → some (g .E) (λ s. badWord (g .I) (mapWord g a s)) ≡ true → mapNumber g a ≡ 7
-  unfolding mapNumber
-  bad-map-word e p = rw (e, p)
+-- rules 1 to 4 let pass
+module _ (t : Told) (a work : List ℕ) (n : ℕ) (f : Figures) (e : n ≡ answered t a (length work) infoRules) (z : eqb n 0 ≡ true)
+    (fe : f ≡ judgedFigures n a) where
+  passed : answered t a (length work) infoRules ≡ 0
+  passed = sym e ∙ eqb-true n 0 z
 
-  pub once-or-not : (r : Bool) → r ≡ blocksOnce g a → LayoutOk g → Arena g a → every (g .N) (laneReadable g a) ≡ true
-      → some (g .E) (λ s. badWord (g .I) (mapWord g a s)) ≡ false → mapNumber g a ≡ cond (not r) 8 0
-  unfolding mapNumber blocksOnce
-  once-or-not r q ok s e p = rw (q, e, p, rule8 g ok a s (every-elim (g .N) (laneReadable g a) e))
+  pub figures-are : f ≡ figuresIn a
+  figures-are = fe ∙ rw z
 
-pub arena-of : (f : Figures) (a : List ℕ) → Fit f (length a) → ((j : ℕ) → getD a j 0 < 256) → Arena (layoutOf f) a
-arena-of f a fit small = record { bytes = record { words = fit .whole; small = small }; long = omega (arith, fit .room) }
+  pub figures-fit : ToldOk t → Fit (t .distance) f (length a)
+  figures-fit told = rw figures-are (described-fit t told a (info-passed t a (length work) passed))
+
+  pub room-refuses : length work < f .blocks → Ends t a work 5 noFigures work
+  unfolding layoutOf
+  room-refuses h =
+      let s : length work < (layoutIn t a) .I = rw figures-are at h in
+      let w : 5 ≡ answered t a (length work) (shortWork ∷ []) = walked (stop (lt-ltb _ _ s)) in
+      alone-refuses t a work 5 (w ∙ sym (alone-answer t a (length work) ∙ rw passed)) refl
+
+  module _ (room : f .blocks ≤ length work) (m : ℕ) (p : m ≡ answered t a (length work) mapRules) where
+    alone-passes : answered t a (length work) aloneRules ≡ 0
+    unfolding layoutOf
+    alone-passes =
+        let s : (layoutIn t a) .I ≤ length work = rw figures-are at room in
+        alone-answer t a (length work) ∙ rw passed (sym (walked (pass (le-ltb _ _ s) through)))
+
+    number-is : m ≡ openNumber t a (length work)
+    number-is = p ∙ sym (open-answer t a (length work) ∙ rw alone-passes)
+
+    work-is : cleared (f .blocks) work ≡ workAfter t a work
+    unfolding workAfter layoutOf
+    work-is = rw (figures-are, alone-passes)
+
+    pub map-refuses : eqb m 0 ≡ false → Ends t a work m noFigures (cleared (f .blocks) work)
+    map-refuses y = record { number = number-is; figures = rw (← number-is, y); buffer = work-is }
+
+    pub map-passes : eqb m 0 ≡ true → Ends t a work m f (cleared (f .blocks) work)
+    map-passes y = record { number = number-is; figures = figures-are ∙ rw (← number-is, y); buffer = work-is }

@@ -1,40 +1,19 @@
--- The parts in which opening's row of tests is judged.
-use mathlib.Core.Bool.{Bool, cond, not, _||_}
-use mathlib.Core.List.{List, [], _∷_}
-use Prim.Native.Nat.{ℕ}
+-- Which info block counts in an arena, and the figures that judging gives.
+use mathlib.Core.Bool.{cond}
+use mathlib.Core.List.{List}
+use Prim.Native.Nat.{ℕ, _-_}
 use lib.Dec.{eqb}
-use lib.ListN.{length}
-use Rattle.format.specs.Tests.{every, some}
-use Rattle.format.specs.MapWord.{badWord}
+use lib.ListN.{length, take, drop}
 use Rattle.layout.specs.Figures.{lengthAllowed}
-use Rattle.layout.specs.Place.{Layout}
-use Rattle.infoblock.specs.Info.{infoBlockOf, infoAllowed, flagsField}
 use Rattle.layout.specs.declared.Figures.{Figures}
-use Rattle.machine.specs.Rules.{_⇒_, verdict}
-use Rattle.machine.specs.Flog.{mapWord, mapBlock, freeOf}
-use Rattle.machine.specs.Handle.{noFigures}
-use Rattle.machine.specs.Opening.{figuresIn, laneReadable, twoPending, eachOnce, mended}
+use Rattle.infoblock.specs.Info.{countsOf}
+use Rattle.machine.specs.state.Handle.{noFigures}
+use Rattle.machine.specs.calls.Opening.{figuresIn}
 
--- rules 3 and 4, by whether the figures are allowed, and whether no flag is set
-unfoldable pub figuresNumber : Bool → Bool → ℕ
-figuresNumber allowed unset = verdict ((not allowed ⇒ 3) ∷ (not unset ⇒ 4) ∷ [])
+-- which of an arena's two info blocks counts: the first (0), the copy (1), or neither (2), as where the length is not allowed
+unfoldable pub infoPartOf : List ℕ → ℕ
+infoPartOf a = cond (lengthAllowed (length a)) (countsOf (take 4096 a) (drop (length a - 4096) a)) 2
 
--- rules 2 to 4, of the block that counts in an arena of n bytes
-unfoldable pub blockNumber : List ℕ → ℕ → ℕ
-blockNumber b n = verdict ((eqb (length b) 0 ⇒ 2) ∷ (not (infoAllowed b n) ⇒ 3) ∷ (not (eqb (flagsField b) 0) ⇒ 4) ∷ [])
-
--- rules 1 to 4
-unfoldable pub infoNumber : List ℕ → ℕ
-infoNumber a = cond (lengthAllowed (length a)) (blockNumber (infoBlockOf a) (length a)) 1
-
--- the figures of an arena that passes them
-unfoldable pub judgedFigures : List ℕ → Figures
-judgedFigures a = cond (eqb (infoNumber a) 0) (figuresIn a) noFigures
-
--- rules 6 to 8
-unfoldable pub mapNumber : Layout → List ℕ → ℕ
-mapNumber g a = verdict (
-    (not (every (g .N) (laneReadable g a)) ⇒ 6)
-    ∷ (some (g .E) (λ s. badWord (g .I) (mapWord g a s)) ⇒ 7)
-    ∷ ((twoPending g a || not (eachOnce g (mapBlock g (mended g a)) (freeOf g a))) ⇒ 8)
-    ∷ [])
+-- the figures that go with a number: those of the info block that counts where it is 0, else none
+abbrev pub judgedFigures : ℕ → List ℕ → Figures
+judgedFigures n a = cond (eqb n 0) (figuresIn a) noFigures

@@ -4,104 +4,93 @@ use format::map::bad_word;
 use format::numbers::LaneNo;
 use format::numbers::SectorNo;
 use infoblock::figures_of;
+use infoblock::flags_allowed;
 use infoblock::info_allowed;
 use lanes::lane_readable;
 use lanes::map_word;
 use layout::Figures;
+use layout::Told;
 use layout::length_allowed;
 use machine::answer::Answer;
 use machine::handle::no_figures;
-use marks::blocks_once;
-use marks::clear;
-use words::word_at;
+use once::blocks_once;
+use once::clear;
 ghost use mathlib.Core.Path.{_≡_};
-ghost use mathlib.Core.Bool.{true, false};
-ghost use Prim.Native.Nat.{_≤_, _<_};
+ghost use Prim.Native.Nat.{ℕ, _≤_};
 ghost use lib.ListN.{length};
-ghost use Rattle.format.specs.Tests.{every, some};
-ghost use Rattle.format.specs.MapWord.{badWord};
-ghost use Rattle.layout.specs.Place.{layoutOf};
-ghost use Rattle.machine.specs.Answer.{numberOf};
-ghost use Rattle.machine.specs.Flog.{mapWord};
-ghost use Rattle.machine.specs.Opening.{laneReadable};
 ghost use Rattle.layout.specs.Fit.{Fit};
-ghost use Rattle.marks.specs.Marks.{cleared};
-ghost use Rattle.judge.specs.Judge.{figuresNumber, blockNumber, infoNumber, judgedFigures, mapNumber};
+ghost use Rattle.layout.specs.Place.{layoutOf};
+ghost use Rattle.machine.specs.Rules.{answer};
+ghost use Rattle.machine.specs.state.Answer.{numberOf};
+ghost use Rattle.machine.specs.state.Handle.{noFigures, ToldOk};
+ghost use Rattle.machine.specs.calls.Opening.{numberOpen, testsOpen, infoRules, mapRules, openNumber};
+ghost use Rattle.machine.specs.calls.Opening.{figuresIn, lanesLost, wordBad, workAfter};
+ghost use Rattle.lanes.specs.Fit.{MapFit};
+ghost use Rattle.once.specs.Once.{cleared};
+ghost use Rattle.judge.specs.Judge.{judgedFigures};
 
-// What rules 1 to 4 found: an answer, and the figures where it is Done.
+// What judging finds: an answer, and the figures where it is Done.
 pub struct Judged {
     pub answer: Answer,
     pub figures: Figures,
 }
 
-// Rules 3 and 4, by whether the figures are allowed, and whether no flag is set.
-fn rules_3_and_4(allowed: bool, unset: bool) -> Answer
-    ensures { λ r. ⌜ numberOf r ≡ figuresNumber allowed unset ⌝ }
+// An answer without figures.
+fn refused(answer: Answer) -> Judged
+    ensures { λ r. ⌜ (r .answer ≡ answer) × (r .figures ≡ noFigures) ⌝ }
 {
-    if !allowed {
-        return Answer::ForbiddenFigure;
+    Judged {
+        answer: answer,
+        figures: no_figures(),
     }
-    if !unset {
-        return Answer::FlagsSet;
-    }
-    Answer::Done
-}
-
-// Rules 2 to 4, of the block that counts.
-fn judge_block(b: &[u8], total: usize) -> Answer
-    requires { ⌜ total ≤ 16777216 ⌝ }
-    requires { ⌜ ((length (now b) ≡ 0 → ⊥) → 4096 ≤ length (now b)) ⌝ }
-    ensures { λ r. ⌜ numberOf r ≡ blockNumber (now (b .entry)) total ⌝ }
-{
-    if b.len() == 0 {
-        return Answer::NoInfoBlock;
-    }
-    rules_3_and_4(info_allowed(b, total), word_at(b, 12) == 0)
 }
 
 // Rules 1 to 4.
-pub fn judge_info(a: &[u8]) -> Judged
-    ensures { λ r. ⌜ (numberOf (r .answer) ≡ infoNumber (now (a .entry))) × (r .figures ≡ judgedFigures (now (a .entry))) ⌝ }
+fn judge_info(a: &[u8], told: Told) -> Judged
+    ensures { λ r. ⌜ ((room : ℕ) → numberOf (r .answer) ≡ answer numberOpen (testsOpen told (now (a .entry)) room) infoRules) ⌝ }
+    ensures { λ r. ⌜ r .figures ≡ judgedFigures (numberOf (r .answer)) (now (a .entry)) ⌝ }
 {
-    if !length_allowed(a.len()) {
-        return Judged {
-            answer: Answer::WrongLength,
-            figures: no_figures(),
-        };
+    let n = a.len();
+    if !length_allowed(n) {
+        return refused(Answer::WrongLength);
     }
     let b = info_block(a);
-    let answer = judge_block(b, a.len());
-    if !answer.is_done() {
-        return Judged {
-            answer: answer,
-            figures: no_figures(),
-        };
+    if b.len() == 0 {
+        return refused(Answer::NoInfoBlock);
+    }
+    let allowed = info_allowed(b, told, n);
+    let unset = flags_allowed(b);
+    if !allowed {
+        return refused(Answer::ForbiddenFigure);
+    }
+    if !unset {
+        return refused(Answer::FlagsSet);
     }
     Judged {
-        answer: answer,
+        answer: Answer::Done,
         figures: figures_of(b),
     }
 }
 
-// Rule 6 does not apply to any lane.
-fn lanes_readable(a: &[u8], f: Figures) -> bool
-    requires { ⌜ Fit f (length (now a)) ⌝ }
-    ensures { λ r. ⌜ r ≡ every (f .lanes) (laneReadable (layoutOf f) (now (a .entry))) ⌝ }
+// Rule 6: whether some lane is not readable.
+fn lanes_lost(a: &[u8], f: Figures, d: u32) -> bool
+    requires { ⌜ Fit d f (length (now a)) ⌝ }
+    ensures { λ r. ⌜ r ≡ lanesLost (layoutOf d f) (now (a .entry)) ⌝ }
 {
     let mut l: u32 = 0;
     while l < f.lanes {
-        if !lane_readable(a, f, LaneNo(l)) {
-            return false;
+        if !lane_readable(a, f, d, LaneNo(l)) {
+            return true;
         }
         l += 1;
     }
-    true
+    false
 }
 
-// Rule 7 applies to some sector's word.
+// Rule 7: whether some sector's map word names a block past the last.
 fn some_bad_word(a: &[u8], f: Figures) -> bool
-    requires { ⌜ Fit f (length (now a)) ⌝ }
-    ensures { λ r. ⌜ r ≡ some (f .sectors) (λ s. badWord (f .blocks) (mapWord (layoutOf f) (now (a .entry)) s)) ⌝ }
+    requires { ⌜ MapFit f (length (now a)) ⌝ }
+    ensures { λ r. ⌜ ((d : ℕ) → r ≡ wordBad (layoutOf d f) (now (a .entry))) ⌝ }
 {
     let mut s: u32 = 0;
     while s < f.sectors {
@@ -114,12 +103,12 @@ fn some_bad_word(a: &[u8], f: Figures) -> bool
 }
 
 // Rules 6 to 8. The first blocks bytes of the work buffer are 0 afterwards.
-pub fn judge_map(a: &[u8], f: Figures, work: &mut [u8]) -> Answer
-    requires { ⌜ Fit f (length (now a)) × (f .blocks ≤ length (now work)) ⌝ }
-    ensures { λ r. ⌜ numberOf r ≡ mapNumber (layoutOf f) (now (a .entry)) ⌝ }
+fn judge_map(a: &[u8], told: Told, f: Figures, work: &mut [u8]) -> Answer
+    requires { ⌜ Fit (told .distance) f (length (now a)) × (f ≡ figuresIn (now a)) × (f .blocks ≤ length (now work)) ⌝ }
+    ensures { λ r. ⌜ ((room : ℕ) → numberOf r ≡ answer numberOpen (testsOpen told (now (a .entry)) room) mapRules) ⌝ }
     ensures { λ _. ⌜ now (work .exit) ≡ cleared (f .blocks) (now (work .entry)) ⌝ }
 {
-    if !lanes_readable(a, f) {
+    if lanes_lost(a, f, told.distance) {
         clear(work, f.blocks as usize);
         return Answer::LostLane;
     }
@@ -127,8 +116,34 @@ pub fn judge_map(a: &[u8], f: Figures, work: &mut [u8]) -> Answer
         clear(work, f.blocks as usize);
         return Answer::BadMapWord;
     }
-    if !blocks_once(a, f, work) {
+    if !blocks_once(a, f, told.distance, work) {
         return Answer::NotValid;
     }
     Answer::Done
+}
+
+// Rules 1 to 8, as an opening is told, with the figures where none applies.
+pub fn judge(a: &[u8], told: Told, work: &mut [u8]) -> Judged
+    requires { ⌜ ToldOk told ⌝ }
+    ensures { λ r. ⌜ numberOf (r .answer) ≡ openNumber told (now (a .entry)) (length (now (work .entry))) ⌝ }
+    ensures { λ r. ⌜ r .figures ≡ judgedFigures (openNumber told (now (a .entry)) (length (now (work .entry)))) (now (a .entry)) ⌝ }
+    ensures { λ _. ⌜ now (work .exit) ≡ workAfter told (now (a .entry)) (now (work .entry)) ⌝ }
+{
+    let info = judge_info(a, told);
+    let f = info.figures;
+    let first = info.answer;
+    if !first.is_done() {
+        return refused(first);
+    }
+    if work.len() < f.blocks as usize {
+        return refused(Answer::ShortWorkBuffer);
+    }
+    let map = judge_map(a, told, f, work);
+    if !map.is_done() {
+        return refused(map);
+    }
+    Judged {
+        answer: map,
+        figures: f,
+    }
 }

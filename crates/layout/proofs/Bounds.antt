@@ -1,13 +1,15 @@
 -- Which figures are in order, one law for each outcome, and bounds on what making works out, so that no sum wraps.
-use mathlib.Core.Path.{_≡_, refl}
-use mathlib.Core.Bool.{Bool, true, false, _&&_, _||_, and-true, and-false, and-eq-true-iff}
+use mathlib.Core.Path.{_≡_}
+use mathlib.Core.Logic.{_⊎_, inl, inr}
+use mathlib.Core.Bool.{true, false, and-true, and-false}
 use Prim.Native.Nat.{ℕ, _+_, _*_, _%_, _≤_, _<_}
 use native.Mathlib.Omega.{arith}
 use native.Mathlib.Nat.{mul-le-mul-left, mul-le-mul-right, le-trans}
 use lib.Dec.{eqb, leb}
-use borrow.Author.Tests.{lt-leb, le-leb, eq-eqb, ne-eqb, eqb-true, leb-true}
-use Rattle.layout.specs.Figures.{sizesAllowed, startsAligned, partsInOrder, figuresAllowed, madeLength, maxLanes}
+use borrow.Author.Tests.{lt-leb, le-leb, eq-eqb, ne-eqb}
+use Rattle.layout.specs.Figures.{sizesAllowed, startsAligned, partsInOrder, figuresAllowed, internalOf, freshLength}
 use Rattle.layout.specs.declared.Figures.{Figures}
+use Rattle.layout.proofs.Allowed.{sizes-of}
 
 pub product : (a b m n : ℕ) → a ≤ m → b ≤ n → a * b ≤ m * n
 product a b m n h k = le-trans (mul-le-mul-left a k) (mul-le-mul-right n h)
@@ -40,9 +42,9 @@ module _ (f : Figures) (n : ℕ) where
   unfolding figuresAllowed
   sizes-wrong h = rw h
 
-  pub internal-wrong : (f .internal ≡ f .size → ⊥) → figuresAllowed f n ≡ false
+  pub internal-wrong : (f .internal ≡ internalOf (f .size) → ⊥) → figuresAllowed f n ≡ false
   unfolding figuresAllowed
-  internal-wrong h = rw (ne-eqb (f .internal) (f .size) h, and-false)
+  internal-wrong h = rw (ne-eqb (f .internal) (internalOf (f .size)) h, and-false)
 
   pub blocks-wrong : (f .blocks ≡ f .sectors + f .lanes → ⊥) → figuresAllowed f n ≡ false
   unfolding figuresAllowed
@@ -52,41 +54,35 @@ module _ (f : Figures) (n : ℕ) where
   unfolding figuresAllowed
   starts-wrong h = rw h (simp and-false)
 
-  pub figures-right : sizesAllowed (f .size) (f .sectors) (f .lanes) ≡ true → f .internal ≡ f .size → f .blocks ≡ f .sectors + f .lanes
-      → startsAligned f ≡ true → figuresAllowed f n ≡ partsInOrder f n
+  pub figures-right : sizesAllowed (f .size) (f .sectors) (f .lanes) ≡ true → f .internal ≡ internalOf (f .size)
+      → f .blocks ≡ f .sectors + f .lanes → startsAligned f ≡ true → figuresAllowed f n ≡ partsInOrder f n
   unfolding figuresAllowed
-  figures-right a b c d = rw (a, d, eq-eqb (f .internal) (f .size) b, eq-eqb (f .blocks) (f .sectors + f .lanes) c)
+  figures-right a b c d = rw (a, d, eq-eqb (f .internal) (internalOf (f .size)) b, eq-eqb (f .blocks) (f .sectors + f .lanes) c)
 
 pub aligned : (f : Figures) → f .dataoff % 4096 ≡ 0 → f .mapoff % 4096 ≡ 0 → f .flogoff % 4096 ≡ 0
     → startsAligned f ≡ eqb (f .copyoff % 4096) 0
 aligned f a b c = rw (eq-eqb (f .dataoff % 4096) 0 a, eq-eqb (f .mapoff % 4096) 0 b, eq-eqb (f .flogoff % 4096) 0 c, and-true)
 
--- a size that passes is at most 4,096
-size-small : (s : ℕ) → (eqb s 512 || eqb s 4096) ≡ true → s ≤ 4096
-size-small s h = go (eqb s 512) refl h
-  where
-    go : (t : Bool) → eqb s 512 ≡ t → (t || eqb s 4096) ≡ true → s ≤ 4096
-    go true e g = omega (arith, eqb-true s 512 e)
-    go false e g = omega (arith, eqb-true s 4096 g)
+-- the internal size of an allowed sector size is at most 8,192
+internal-small : (s : ℕ) → (s ≡ 512) ⊎ (s ≡ 4096) → internalOf s ≤ 8192
+internal-small s (inl e) = rw e (omega arith)
+internal-small s (inr e) = rw e (omega arith)
 
 module _ (size sectors lanes : ℕ) where
-  -- at most 16 lanes, and sectors of at most 4,096 bytes
-  pub sizes-small : sizesAllowed size sectors lanes ≡ true → (size ≤ 4096) × (lanes ≤ 16)
-  sizes-small h =
-      let w = eqb size 512 || eqb size 4096 in
-      let a = and-eq-true-iff w (leb lanes sectors && (leb 1 lanes && (leb lanes maxLanes && true))) .0 h in
-      let b = and-eq-true-iff (leb lanes sectors) (leb 1 lanes && (leb lanes maxLanes && true)) .0 (a .1) in
-      let c = and-eq-true-iff (leb 1 lanes) (leb lanes maxLanes && true) .0 (b .1) in
-      let d = and-eq-true-iff (leb lanes maxLanes) true .0 (c .1) in
-      (size-small size (a .0), leb-true lanes 16 (d .0))
+  -- at most 16 lanes, and blocks of at most 8,192 bytes
+  pub sizes-small : sizesAllowed size sectors lanes ≡ true → (internalOf size ≤ 8192) × (lanes ≤ 16)
+  sizes-small h = let s = sizes-of size sectors lanes h in (internal-small size (s .0), s .3)
 
-  pub data-small : sizesAllowed size sectors lanes ≡ true → sectors < 4294967296 → (sectors + lanes) * size ≤ 17592186109952
-  data-small h k =
+  -- the bytes of all blocks, z each
+  pub data-small : sizesAllowed size sectors lanes ≡ true → sectors < 4294967296 → (z : ℕ) → z ≡ internalOf size
+      → (sectors + lanes) * z ≤ 35184372219904
+  data-small h k z e =
       let s = sizes-small h in
       let l : sectors + lanes ≤ 4294967312 = omega arith in
-      omega (arith, product (sectors + lanes) size 4294967312 4096 l (s .0))
+      omega (arith, product (sectors + lanes) z 4294967312 8192 l (rw e (s .0)))
 
   -- an allowed length bounds each part
-  pub parts-small : madeLength size sectors lanes ≤ 16777216 → (sectors + lanes) * size + 4 * sectors + 64 * lanes ≤ 16777216
-  unfolding madeLength
-  parts-small h = omega arith
+  pub parts-small : freshLength size sectors lanes ≤ 16777216 → (z : ℕ) → z ≡ internalOf size
+      → (sectors + lanes) * z + 4 * sectors + 64 * lanes ≤ 16777216
+  unfolding freshLength
+  parts-small h z e = rw e (omega arith)

@@ -2,9 +2,10 @@
 use mathlib.Core.Path.{_≡_}
 use mathlib.Core.Logic.{_⊎_}
 use mathlib.Core.Bool.{Bool, _&&_, _||_}
-use mathlib.Core.List.{[], _∷_}
+use mathlib.Core.List.{List, [], _∷_}
 use Prim.Native.Nat.{ℕ, _+_, _*_, _/_, _%_, _≤_}
 use lib.Dec.{eqb, leb}
+use Rattle.words.specs.Word.{word, long}
 use Rattle.format.specs.Tests.{allOf}
 use Rattle.layout.specs.declared.Figures.{Figures}
 
@@ -12,13 +13,29 @@ use Rattle.layout.specs.declared.Figures.{Figures}
 abbrev pub maxLanes : ℕ
 maxLanes = 16
 
+-- the most bytes of a sector
+abbrev pub maxSize : ℕ
+maxSize = 4096
+
+-- the most stores of a write: a sector's words, a half's four words and a map word
+abbrev pub maxStores : ℕ
+maxStores = maxSize / 4 + 5
+
+-- the sizes that a sector can have
+abbrev pub sizeAllowed : ℕ → Bool
+sizeAllowed size = eqb size 512 || eqb size 4096
+
+-- the internal size of a sector size: the bytes of a block
+abbrev pub internalOf : ℕ → ℕ
+internalOf size = size
+
 -- rule 1: a multiple of 4,096 from 20,480 to 16,777,216
 abbrev pub lengthAllowed : ℕ → Bool
 lengthAllowed n = eqb (n % 4096) 0 && (leb 20480 n && leb n 16777216)
 
 -- S, E and lanes, as making judges them
 abbrev pub sizesAllowed : ℕ → ℕ → ℕ → Bool
-sizesAllowed size sectors lanes = allOf ((eqb size 512 || eqb size 4096) ∷ leb lanes sectors ∷ leb 1 lanes ∷ leb lanes maxLanes ∷ [])
+sizesAllowed size sectors lanes = allOf (sizeAllowed size ∷ leb lanes sectors ∷ leb 1 lanes ∷ leb lanes maxLanes ∷ [])
 
 -- the four starts are multiples of 4,096
 abbrev pub startsAligned : Figures → Bool
@@ -34,7 +51,7 @@ partsInOrder f length = allOf (
 unfoldable pub figuresAllowed : Figures → ℕ → Bool
 figuresAllowed f length =
     sizesAllowed (f .size) (f .sectors) (f .lanes)
-    && (eqb (f .internal) (f .size) && (eqb (f .blocks) (f .sectors + f .lanes) && (startsAligned f && partsInOrder f length)))
+    && (eqb (f .internal) (internalOf (f .size)) && (eqb (f .blocks) (f .sectors + f .lanes) && (startsAligned f && partsInOrder f length)))
 
 -- the same as a proposition, row by row of the table
 pub record Allowed (f : Figures) (length : ℕ) : Type 0 where
@@ -43,7 +60,7 @@ pub record Allowed (f : Figures) (length : ℕ) : Type 0 where
   pub internal : f .internal ≡ f .size
   pub blocks : f .blocks ≡ f .sectors + f .lanes
   pub some-lane : 1 ≤ f .lanes
-  pub few-lanes : f .lanes ≤ maxLanes
+  pub few-lanes : f .lanes ≤ 16
   pub data-aligned : f .dataoff % 4096 ≡ 0
   pub map-aligned : f .mapoff % 4096 ≡ 0
   pub flog-aligned : f .flogoff % 4096 ≡ 0
@@ -60,7 +77,7 @@ roundUp n = (n + 4095) / 4096 * 4096
 
 -- making: data at 4,096, and each next part at the least multiple of 4,096 that fits
 abbrev pub mapStart : ℕ → ℕ → ℕ → ℕ
-mapStart size sectors lanes = roundUp (4096 + (sectors + lanes) * size)
+mapStart size sectors lanes = roundUp (4096 + (sectors + lanes) * internalOf size)
 
 abbrev pub flogStart : ℕ → ℕ → ℕ → ℕ
 flogStart size sectors lanes = roundUp (mapStart size sectors lanes + 4 * sectors)
@@ -69,18 +86,32 @@ abbrev pub copyStart : ℕ → ℕ → ℕ → ℕ
 copyStart size sectors lanes = roundUp (flogStart size sectors lanes + 64 * lanes)
 
 -- the length that making works out
-unfoldable pub madeLength : ℕ → ℕ → ℕ → ℕ
-madeLength size sectors lanes = copyStart size sectors lanes + 4096
+unfoldable pub freshLength : ℕ → ℕ → ℕ → ℕ
+freshLength size sectors lanes = copyStart size sectors lanes + 4096
 
-unfoldable pub madeFigures : ℕ → ℕ → ℕ → Figures
-madeFigures size sectors lanes = record {
+unfoldable pub freshFigures : ℕ → ℕ → ℕ → Figures
+freshFigures size sectors lanes = record {
   size = size;
   sectors = sectors;
-  internal = size;
+  internal = internalOf size;
   blocks = sectors + lanes;
   lanes = lanes;
   dataoff = 4096;
   mapoff = mapStart size sectors lanes;
   flogoff = flogStart size sectors lanes;
   copyoff = copyStart size sectors lanes;
+}
+
+-- figures as they lie in bytes: five from word i on, and the four starts from word j on
+unfoldable pub figuresAt : List ℕ → ℕ → ℕ → Figures
+figuresAt b i j = record {
+  size = word b i;
+  sectors = word b (i + 1);
+  internal = word b (i + 2);
+  blocks = word b (i + 3);
+  lanes = word b (i + 4);
+  dataoff = long b j;
+  mapoff = long b (j + 2);
+  flogoff = long b (j + 4);
+  copyoff = long b (j + 6);
 }

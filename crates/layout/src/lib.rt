@@ -1,18 +1,22 @@
 // The figures of an arena: which are allowed, which making works out, and where each part's words are.
+pub mod claims;
+
 use format::numbers::BlockNo;
 use format::numbers::LaneNo;
 use format::numbers::SectorNo;
+use words::long_at;
+use words::word_at;
 ghost use mathlib.Core.Path.{_≡_};
 ghost use mathlib.Core.Bool.{true};
-ghost use Prim.Native.Nat.{_+_, _*_, _≤_, _<_};
-ghost use Rattle.layout.specs.Figures.{lengthAllowed, sizesAllowed, startsAligned, partsInOrder, figuresAllowed, roundUp, madeLength, madeFigures};
+ghost use Prim.Native.Nat.{ℕ, _+_, _*_, _≤_, _<_};
+ghost use lib.ListN.{length};
+ghost use Rattle.layout.specs.Figures.{maxSize, internalOf, lengthAllowed, sizesAllowed, startsAligned, partsInOrder, figuresAllowed};
+ghost use Rattle.layout.specs.Figures.{roundUp, freshLength, freshFigures, figuresAt};
 ghost use Rattle.layout.specs.Place.{layoutOf, inData, inMap, inFlog, at};
+ghost use Rattle.layout.specs.Told.{alone};
 
 // The most lanes that an arena has.
 pub const MAX_LANES: u32 = 16;
-
-// The words between the starts of a lane's two halves.
-pub const HALF_DISTANCE: usize = 4;
 
 // The figures of an arena, as its info block has them; starts are in bytes.
 pub struct Figures {
@@ -31,6 +35,47 @@ pub struct Figures {
     pub mapoff: u64,
     pub flogoff: u64,
     pub copyoff: u64,
+}
+
+// What an opening is told: the next arena that the info block must name, and the bytes between the starts of a lane's two halves.
+pub struct Told {
+    pub next: u64,
+    pub distance: u32,
+}
+
+// What the opening of an arena by itself is told.
+pub fn alone() -> Told
+    ensures { λ r. ⌜ r ≡ alone ⌝ }
+{
+    Told {
+        next: 0,
+        distance: 16,
+    }
+}
+
+// The five figures from word i on and the four starts from word j on.
+pub fn figures_at(b: &[u8], i: usize, j: usize) -> Figures
+    requires { ⌜ (4 * (i + 5) ≤ length (now b)) × (4 * (j + 8) ≤ length (now b)) ⌝ }
+    ensures { λ r. ⌜ r ≡ figuresAt (now (b .entry)) i j ⌝ }
+{
+    Figures {
+        size: word_at(b, i),
+        sectors: word_at(b, i + 1),
+        internal: word_at(b, i + 2),
+        blocks: word_at(b, i + 3),
+        lanes: word_at(b, i + 4),
+        dataoff: long_at(b, j),
+        mapoff: long_at(b, j + 2),
+        flogoff: long_at(b, j + 4),
+        copyoff: long_at(b, j + 6),
+    }
+}
+
+// The internal size of a sector size.
+pub fn internal_of(size: u32) -> u32
+    ensures { λ r. ⌜ r ≡ internalOf size ⌝ }
+{
+    size // A block is as long as a sector.
 }
 
 // Rule 1: whether a slice of that length can be an arena.
@@ -120,7 +165,7 @@ pub fn figures_allowed(f: Figures, length: usize) -> bool
     if !sizes_allowed(f.size, f.sectors, f.lanes) {
         return false;
     }
-    if f.internal != f.size {
+    if f.internal != internal_of(f.size) {
         return false;
     }
     if f.blocks as u64 != f.sectors as u64 + f.lanes as u64 {
@@ -141,30 +186,31 @@ fn round_up(n: u64) -> u64
 }
 
 // The length that making works out.
-pub fn made_length(size: u32, sectors: u32, lanes: u32) -> u64
+pub fn fresh_length(size: u32, sectors: u32, lanes: u32) -> u64
     requires { ⌜ sizesAllowed size sectors lanes ≡ true ⌝ }
-    ensures { λ r. ⌜ r ≡ madeLength size sectors lanes ⌝ }
+    ensures { λ r. ⌜ r ≡ freshLength size sectors lanes ⌝ }
 {
     let blocks = sectors as u64 + lanes as u64;
-    let mapoff = round_up(4096 + blocks * (size as u64));
+    let mapoff = round_up(4096 + blocks * (internal_of(size) as u64));
     let flogoff = round_up(mapoff + 4 * (sectors as u64));
     let copyoff = round_up(flogoff + 64 * (lanes as u64));
     copyoff + 4096
 }
 
 // The figures that making works out, for a length that is allowed.
-pub fn made_figures(size: u32, sectors: u32, lanes: u32) -> Figures
-    requires { ⌜ (sizesAllowed size sectors lanes ≡ true) × (madeLength size sectors lanes ≤ 16777216) ⌝ }
-    ensures { λ r. ⌜ r ≡ madeFigures size sectors lanes ⌝ }
+pub fn fresh_figures(size: u32, sectors: u32, lanes: u32) -> Figures
+    requires { ⌜ (sizesAllowed size sectors lanes ≡ true) × (freshLength size sectors lanes ≤ 16777216) ⌝ }
+    ensures { λ r. ⌜ r ≡ freshFigures size sectors lanes ⌝ }
 {
     let blocks = sectors + lanes;
-    let mapoff = round_up(4096 + (blocks as u64) * (size as u64));
-    let flogoff = round_up(mapoff + 4 * (sectors as u64));
+    let internal = internal_of(size);
+    let mapoff = round_up(4096 + (blocks as u64) * (internal as u64));
+    let flogoff = round_up(mapoff + 4 * (sectors as u64)); // A map word is four bytes.
     let copyoff = round_up(flogoff + 64 * (lanes as u64));
     Figures {
         size: size,
         sectors: sectors,
-        internal: size,
+        internal: internal,
         blocks: blocks,
         lanes: lanes,
         dataoff: 4096,
@@ -176,23 +222,23 @@ pub fn made_figures(size: u32, sectors: u32, lanes: u32) -> Figures
 
 // The word number of a sector's map word.
 pub fn map_place(f: Figures, sector: SectorNo) -> usize
-    ensures { λ r. ⌜ r ≡ at (layoutOf f) (inMap (sector .0)) ⌝ }
+    ensures { λ r. ⌜ ((d : ℕ) → r ≡ at (layoutOf d f) (inMap (sector .0))) ⌝ }
 {
     (f.mapoff / 4) as usize + sector.0 as usize
 }
 
-// The word number of word k of a half of a lane's flog.
-pub fn flog_place(f: Figures, lane: LaneNo, half: u32, k: usize) -> usize
+// The word number of word k of a half of a lane's flog, where the halves start d bytes apart.
+pub fn flog_place(f: Figures, d: u32, lane: LaneNo, half: u32, k: usize) -> usize
     requires { ⌜ (half < 3) × (k < 4) ⌝ }
-    ensures { λ r. ⌜ r ≡ at (layoutOf f) (inFlog (lane .0) half k) ⌝ }
+    ensures { λ r. ⌜ r ≡ at (layoutOf d f) (inFlog (lane .0) half k) ⌝ }
 {
-    (f.flogoff / 4) as usize + (16 * (lane.0 as usize) + (half as usize * HALF_DISTANCE + k))
+    (f.flogoff / 4) as usize + (16 * (lane.0 as usize) + (half as usize * ((d / 4) as usize) + k))
 }
 
 // The word number of word k of a block.
 pub fn data_place(f: Figures, block: BlockNo, k: usize) -> usize
-    requires { ⌜ k < 4096 ⌝ }
-    ensures { λ r. ⌜ r ≡ at (layoutOf f) (inData (block .0) k) ⌝ }
+    requires { ⌜ k < maxSize ⌝ }
+    ensures { λ r. ⌜ ((d : ℕ) → r ≡ at (layoutOf d f) (inData (block .0) k)) ⌝ }
 {
     (f.dataoff / 4) as usize + (block.0 as usize * ((f.internal / 4) as usize) + k)
 }

@@ -2,7 +2,7 @@
 ghost use mathlib.Core.Path.{_≡_};
 ghost use mathlib.Core.Bool.{Bool};
 ghost use lib.Dec.{eqb};
-ghost use Rattle.machine.specs.Answer.{numberOf};
+ghost use Rattle.machine.specs.state.Answer.{numberOf};
 
 // Each with its number in document 01's table of refusals.
 pub enum Answer {

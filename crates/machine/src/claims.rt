@@ -1,8 +1,8 @@
 // The claims about the calls, each the contract of a function that does nothing.
-ghost use Rattle.machine.specs.DemandOne.{DemandOne};
-ghost use Rattle.machine.specs.DemandTwo.{DemandTwo};
-ghost use Rattle.machine.specs.DemandThree.{DemandThree};
-ghost use Rattle.machine.specs.Exhibit.{Exhibited};
+ghost use Rattle.machine.specs.claims.DemandOne.{DemandOne};
+ghost use Rattle.machine.specs.claims.DemandTwo.{DemandTwo};
+ghost use Rattle.machine.specs.claims.DemandThree.{DemandThree};
+ghost use Rattle.machine.specs.claims.Exhibit.{Exhibited};
 
 // Every call answers by its row of the table, and a refusal changes nothing.
 pub fn demand_one()

@@ -1,20 +1,26 @@
-// The handle that opening gives: the slice's length, the figures, and a record for each lane.
+// The handle that opening gives: the slice's length, the figures, and an array of records, of which the first are the lanes'.
 use super::lane::Lane;
 use layout::Figures;
+use layout::MAX_LANES;
 use layout::figures_allowed;
 use layout::length_allowed;
 ghost use mathlib.Core.Path.{_≡_};
 ghost use mathlib.Core.Bool.{Bool, true, false};
 ghost use Prim.Native.Nat.{ℕ, _≤_, _<_};
-ghost use Rattle.machine.specs.Lane.{laneAllowed};
+ghost use Rattle.machine.specs.state.Lane.{laneAllowed};
 ghost use Rattle.format.specs.Tests.{every};
+ghost use Rattle.layout.specs.Figures.{maxLanes};
 ghost use Rattle.layout.specs.Place.{layoutOf};
-ghost use Rattle.machine.specs.Handle.{noFigures, noHandle, laneAt, handleAllowed};
+ghost use Rattle.machine.specs.state.Handle.{noFigures, laneAt, laidOut, handleAllowed};
+ghost use Rattle.machine.specs.state.Packed.{unpacked, zeroHandle};
+
+// The records of a handle: one for each lane that there may be.
+pub const RECORDS: usize = MAX_LANES as usize;
 
 pub struct Handle {
     pub length: u64,
     pub figures: Figures,
-    pub lanes: [Lane; 16],
+    pub lanes: [Lane; RECORDS],
 }
 
 // The figures of no arena.
@@ -36,10 +42,10 @@ pub fn no_figures() -> Figures
 
 // The handle of all zeroes, which a refused opening gives.
 pub fn no_handle() -> Handle
-    ensures { λ r. ⌜ r ≡ noHandle ⌝ }
+    ensures { λ r. ⌜ r ≡ zeroHandle ⌝ }
 {
     let none = Lane::none();
-    let lanes = [none; 16];
+    let lanes = [none; RECORDS];
     let figures = no_figures();
     Handle {
         length: 0,
@@ -50,7 +56,7 @@ pub fn no_handle() -> Handle
 
 // Whether a lane's record is in range, idle or not.
 fn lane_allowed(f: Figures, r: Lane) -> bool
-    ensures { λ t. ⌜ t ≡ laneAllowed (layoutOf f) r ⌝ }
+    ensures { λ t. ⌜ ((d : ℕ) → t ≡ laneAllowed (layoutOf d f) r) ⌝ }
 {
     if f.blocks <= r.block.0 {
         return false;
@@ -70,13 +76,16 @@ fn lane_allowed(f: Figures, r: Lane) -> bool
     if f.sectors <= r.sector.0 {
         return false;
     }
+    if 1 < r.busy {
+        return false;
+    }
     r.made < f.size / 4 + 5
 }
 
 // Whether the records of the lanes are in range; those past the lanes are not judged.
 fn lanes_allowed(h: Handle) -> bool
-    requires { ⌜ h .figures .lanes ≤ 16 ⌝ }
-    ensures { λ t. ⌜ t ≡ every (h .figures .lanes) (λ l. laneAllowed (layoutOf (h .figures)) (laneAt (h .lanes) l)) ⌝ }
+    requires { ⌜ h .figures .lanes ≤ maxLanes ⌝ }
+    ensures { λ t. ⌜ t ≡ every (h .figures .lanes) (λ l. laneAllowed (laidOut (unpacked h)) (laneAt (unpacked h .lanes) l)) ⌝ }
 {
     let f = h.figures;
     let n = f.lanes as usize;
@@ -93,7 +102,7 @@ fn lanes_allowed(h: Handle) -> bool
 
 // Rule 16 does not apply: the figures are allowed and match a slice of that length, and the lanes' records are in range.
 pub fn handle_allowed(h: Handle, total: usize) -> bool
-    ensures { λ t. ⌜ t ≡ handleAllowed h total ⌝ }
+    ensures { λ t. ⌜ t ≡ handleAllowed (unpacked h) total ⌝ }
 {
     if !length_allowed(total) {
         return false;

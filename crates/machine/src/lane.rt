@@ -4,11 +4,12 @@ use format::numbers::SectorNo;
 use format::sequence::Sequence;
 ghost use mathlib.Core.Path.{_≡_};
 ghost use Prim.Native.Nat.{_+_, _≤_, _<_};
-ghost use Rattle.machine.specs.Lane.{noLane, idleLane, startedLane, storedLane, finishedLane};
+ghost use Rattle.layout.specs.Figures.{maxStores};
+ghost use Rattle.machine.specs.state.Lane.{noLane, idleLane, isBusy, startedLane, storedLane, finishedLane};
 
 pub struct Lane {
-    // Whether a write is in flight.
-    pub busy: bool,
+    // 1 where a write is in flight, else 0.
+    pub busy: u32,
     // The free block; of a write in flight, its new block.
     pub block: BlockNo,
     // The half of the flog pair that is written next: 0 or 1.
@@ -35,7 +36,7 @@ impl Lane {
         ensures { λ r. ⌜ r ≡ idleLane (block .0) half (sequence .0) ⌝ }
     {
         Lane {
-            busy: false,
+            busy: 0,
             block: block,
             half: half,
             sequence: sequence,
@@ -45,20 +46,27 @@ impl Lane {
         }
     }
 
+    // Whether the lane is not idle.
+    pub fn is_busy(self) -> bool
+        ensures { λ r. ⌜ r ≡ isBusy self ⌝ }
+    {
+        self.busy != 0
+    }
+
     // The record with a write to a sector begun.
     pub fn start(mut self, sector: SectorNo, old: BlockNo) -> Self
         ensures { λ r. ⌜ r ≡ startedLane self (sector .0) (old .0) ⌝ }
     {
-        self.busy = true;
+        self.busy = 1;
         self.sector = sector;
         self.old = old;
-        self.made = 0;
+        self.made = 0; // No store is made yet.
         self
     }
 
     // The record after one store that is not the last.
     pub fn stored(mut self) -> Self
-        requires { ⌜ self .made < 1029 ⌝ }
+        requires { ⌜ self .made < maxStores ⌝ }
         ensures { λ r. ⌜ r ≡ storedLane self ⌝ }
     {
         self.made = self.made + 1;
@@ -75,7 +83,7 @@ impl Lane {
         let old = self.old;
         let no_sector = SectorNo(0);
         let no_block = BlockNo(0);
-        self.busy = false;
+        self.busy = 0;
         self.block = old;
         self.half = 1 - self.half;
         self.sequence = next;

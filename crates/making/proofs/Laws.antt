@@ -1,22 +1,41 @@
--- Laws of making: a fresh lane word by word, the flog lane by lane, the tail part by part, and the order of the refusals, outcome by outcome.
+-- Laws of making: a fresh lane word by word, the flog lane by lane, the tail part by part, and making's order.
 use mathlib.Core.Path.{_≡_, refl, sym, ap, _∙_}
-use mathlib.Core.Bool.{true, false, not, _&&_}
+use mathlib.Core.Bool.{true, false}
+use mathlib.Core.Logic.{_≢_}
 use mathlib.Core.List.{List, _∷_, _++_, append-nil}
-use Prim.Native.Nat.{ℕ, zero, suc, _+_, _-_, _*_, _/_, _≤_, _<_}
+use Prim.Native.Nat.{ℕ, zero, suc, _+_, _-_, _*_, _/_, _%_, _≤_, _<_}
 use native.Mathlib.Omega.{arith}
 use native.Mathlib.Numerals.{add-one}
 use lib.Dec.{eqb}
 use lib.ListN.{length, replicate, length-append, length-replicate}
-use borrow.Author.Tests.{eq-eqb, ne-eqb, eqb-true, not-false}
+use borrow.Author.Tests.{eqb-true, not-false}
 use Rattle.words.specs.Word.{putWord, putWords}
 use Rattle.words.proofs.Runs.{putWords-append}
-use Rattle.layout.specs.Figures.{lengthAllowed, sizesAllowed, madeLength, madeFigures, Allowed}
+use Rattle.layout.specs.Figures.{lengthAllowed, sizesAllowed, freshLength, freshFigures}
 use Rattle.layout.specs.Place.{layoutOf}
+use Rattle.layout.specs.Told.{alone}
 use Rattle.layout.specs.declared.Figures.{Figures}
-use Rattle.machine.specs.Making.{Order, makeNumber, freshLane, freshFlog, tailWords, dataEnd, madeArena, Made, makeOf}
+use Rattle.machine.specs.calls.Making.{
+  Wanted,
+  MakeRule,
+  wrongSizes,
+  wrongTotal,
+  wrongIdentifier,
+  numberMake,
+  orderMake,
+  testsMake,
+  makeNumber,
+  freshLane,
+  freshFlog,
+  tailWords,
+  dataEnd,
+  freshArena,
+  MakeOutcome,
+  makeOf,
+}
 use Rattle.format.proofs.Tests.{and-elim}
-use Rattle.layout.proofs.Allowed.{made-allowed, layout-ok, layout-exact}
-use Rattle.machine.proofs.Rows.{passed}
+use Rattle.layout.proofs.Allowed.{made-allowed, alone-ok, fit-of}
+use Rattle.machine.proofs.rules.Rules.{Walk, walked, passed-all}
 use Rattle.infoblock.proofs.InfoBlock.{length-of}
 use Rattle.layout.specs.Fit.{Fit}
 
@@ -31,7 +50,7 @@ put-four a i p q r s ws =
     let e4 : i + 4 ≡ suc (suc (suc (suc i))) = omega arith in
     rw (e1, e2, e3, e4)
 
-pub length-flog : (s i n : ℕ) → length (freshFlog s i n) ≡ 16 * n
+length-flog : (s i n : ℕ) → length (freshFlog s i n) ≡ 16 * n
 unfolding freshFlog
 length-flog s i zero = refl
 length-flog s i (suc n) =
@@ -60,108 +79,89 @@ put-parts : (a xs ys zs ws : List ℕ) (i j k m : ℕ) → i + length xs ≡ j �
 put-parts a xs ys zs ws i j k m p q r =
     sym (putWords-append xs (ys ++ (zs ++ ws)) a i ∙ rw (p, putWords-append ys (zs ++ ws), q, putWords-append zs ws, r))
 
--- what fits leaves room for every part
-pub record Room (f : Figures) (n : ℕ) : Type 0 where
+-- what fits leaves room for every part that follows the data blocks
+pub record TailRoom (f : Figures) (n : ℕ) : Type 0 where
   pub data-end : f .dataoff / 4 + f .blocks * (f .internal / 4) ≤ f .flogoff / 4
   pub flog-end : f .flogoff / 4 + 16 * f .lanes ≤ f .copyoff / 4
   pub copy-end : 4 * (f .copyoff / 4 + 1024) ≤ n
   pub starts : f .copyoff / 4 < 4194304
   pub words : f .sectors + f .lanes < 4294967296
 
-pub room-of : (f : Figures) (n : ℕ) → Fit f n → Room f n
+pub room-of : (d : ℕ) (f : Figures) (n : ℕ) → Fit d f n → TailRoom f n
 unfolding layoutOf
-room-of f n t =
+room-of d f n t =
     let o = t .ok in
     let r = t .room in
     let s = t .starts in
     record { data-end = omega arith; flog-end = omega arith; copy-end = omega arith; starts = omega arith; words = omega arith }
 
 -- the parts of the tail, stored one after the other
-pub put-tail-parts : (f : Figures) (n : ℕ) (a info : List ℕ) → Room f n
+pub put-tail-parts : (d : ℕ) (f : Figures) (n : ℕ) (a info : List ℕ) → TailRoom f n
     → putWords (putWords (putWords
-    (putWords a (f .dataoff / 4 + f .blocks * (f .internal / 4)) (replicate (f .flogoff / 4 - (f .dataoff / 4 + f .blocks * (f .internal / 4))) 0))
+    (putWords a (f .dataoff / 4 + f .blocks * (f .internal / 4))
+    (replicate (f .flogoff / 4 - (f .dataoff / 4 + f .blocks * (f .internal / 4))) 0))
     (f .flogoff / 4) (freshFlog (f .sectors) 0 (f .lanes)))
     (f .flogoff / 4 + 16 * f .lanes) (replicate (f .copyoff / 4 - (f .flogoff / 4 + 16 * f .lanes)) 0))
     (f .copyoff / 4) info
-    ≡ putWords a (dataEnd (layoutOf f)) (tailWords (layoutOf f) info)
+    ≡ putWords a (dataEnd (layoutOf d f)) (tailWords (layoutOf d f) info)
 unfolding layoutOf tailWords
-put-tail-parts f n a info r =
-    let d = r .data-end in
-    let e = r .flog-end in
+put-tail-parts d f n a info r =
+    let e = r .data-end in
+    let h = r .flog-end in
     put-parts a _ _ _ info _ _ _ _ (rw length-replicate (omega arith)) (rw length-flog refl) (rw length-replicate (omega arith))
 
--- the refusals of making, outcome by outcome
-module _ (o : Order) (n : ℕ) where
-  pub make-3 : sizesAllowed (o .size) (o .sectors) (o .lanes) ≡ false → 3 ≡ makeNumber o n
-  unfolding makeNumber
-  make-3 p = rw p
+-- ---- making's order
 
-  module _ (sizes : sizesAllowed (o .size) (o .sectors) (o .lanes) ≡ true) where
-    pub make-1 : lengthAllowed n ≡ false → 1 ≡ makeNumber o n
-    unfolding makeNumber
-    make-1 p = rw (sizes, p)
+-- the answer at which a walk along the order ends
+pub make-walk : (o : Wanted) (n : ℕ) {k : ℕ} → Walk numberMake (testsMake o n) orderMake k → k ≡ makeNumber o n
+unfolding makeNumber
+make-walk o n w = walked w
 
-    module _ (allowed : lengthAllowed n ≡ true) where
-      pub make-1-made : (n ≡ madeLength (o .size) (o .sectors) (o .lanes) → ⊥) → 1 ≡ makeNumber o n
-      unfolding makeNumber
-      make-1-made p = rw (sizes, allowed, ne-eqb _ _ p)
-
-      module _ (made : n ≡ madeLength (o .size) (o .sectors) (o .lanes)) where
-        pub make-10-first : (length (o .first) ≡ 16 → ⊥) → 10 ≡ makeNumber o n
-        unfolding makeNumber
-        make-10-first p = rw (sizes, allowed, eq-eqb _ _ made, ne-eqb _ _ p)
-
-        pub make-10-second : length (o .first) ≡ 16 → (length (o .second) ≡ 16 → ⊥) → 10 ≡ makeNumber o n
-        unfolding makeNumber
-        make-10-second p q = rw (sizes, allowed, eq-eqb _ _ made, eq-eqb _ _ p, ne-eqb _ _ q)
-
-        pub make-0 : length (o .first) ≡ 16 → length (o .second) ≡ 16 → 0 ≡ makeNumber o n
-        unfolding makeNumber
-        make-0 p q = rw (sizes, allowed, eq-eqb _ _ made, eq-eqb _ _ p, eq-eqb _ _ q)
+some-number-make : (r : MakeRule) → numberMake r ≢ 0
+some-number-make wrongSizes e = omega arith
+some-number-make wrongTotal e = omega arith
+some-number-make wrongIdentifier e = omega arith
 
 -- what making that is not refused gives
-pub record Passed (o : Order) (n : ℕ) : Type 0 where
+pub record MakingPassed (o : Wanted) (n : ℕ) : Type 0 where
   pub sizes : sizesAllowed (o .size) (o .sectors) (o .lanes) ≡ true
+  pub whole : n % 4096 ≡ 0
   pub most : n ≤ 16777216
-  pub made : n ≡ madeLength (o .size) (o .sectors) (o .lanes)
+  pub made : n ≡ freshLength (o .size) (o .sectors) (o .lanes)
   pub first : length (o .first) ≡ 16
   pub second : length (o .second) ≡ 16
 
-pub make-passed : (o : Order) (n : ℕ) → makeNumber o n ≡ 0 → Passed o n
+make-passed : (o : Wanted) (n : ℕ) → makeNumber o n ≡ 0 → MakingPassed o n
 unfolding makeNumber
 make-passed o n e =
-    let s = passed (not (sizesAllowed (o .size) (o .sectors) (o .lanes))) 2 _ e in
-    let l = passed (not (lengthAllowed n && eqb n (madeLength (o .size) (o .sectors) (o .lanes)))) 0 _ (s .1) in
-    let b = passed (not (eqb (length (o .first)) 16 && eqb (length (o .second)) 16)) 9 _ (l .1) in
-    let m = and-elim (lengthAllowed n) _ (not-false _ (l .0)) in
-    let i = and-elim (eqb (length (o .first)) 16) _ (not-false _ (b .0)) in
+    let p = passed-all numberMake some-number-make (testsMake o n) orderMake e in
+    let m = and-elim (lengthAllowed n) _ (not-false _ (p .1 .0)) in
+    let l = length-of n (m .0) in
+    let i = and-elim (eqb (length (o .first)) 16) _ (not-false _ (p .1 .1 .0)) in
     record {
-      sizes = not-false _ (s .0);
-      most = length-of n (m .0) .2;
+      sizes = not-false _ (p .0);
+      whole = l .0;
+      most = l .2;
       made = eqb-true _ _ (m .1);
       first = eqb-true _ _ (i .0);
       second = eqb-true _ _ (i .1);
     }
 
 -- and its figures fit
-pub made-fit : (o : Order) (n : ℕ) → Passed o n → Fit (madeFigures (o .size) (o .sectors) (o .lanes)) n
+pub made-fit : (o : Wanted) (n : ℕ) → MakingPassed o n → Fit (alone .distance) (freshFigures (o .size) (o .sectors) (o .lanes)) n
 made-fit o n p =
-    let f = madeFigures (o .size) (o .sectors) (o .lanes) in
-    let a : Allowed f n = rw (p .made) (made-allowed (o .size) (o .sectors) (o .lanes) (p .sizes)) in
-    let c = a .copy-start in
-    let m = p .most in
-    let x = layout-exact f n a in
-    record { ok = layout-ok f n a m; few = a .few-lanes; starts = omega arith; room = omega arith; whole = omega arith }
+    let a = made-allowed (o .size) (o .sectors) (o .lanes) (p .sizes) in
+    fit-of (alone .distance) alone-ok _ n (rw (p .made) a) (p .whole) (p .most)
 
 -- what making gives, refused and not
-module _ (o : Order) (n : ℕ) (a : List ℕ) (e : n ≡ makeNumber o (length a)) where
-  pub make-refused : eqb n 0 ≡ false → _≡_ {A = Made} (record { number = n; arena = a }) (makeOf o a)
+module _ (o : Wanted) (n : ℕ) (a : List ℕ) (e : n ≡ makeNumber o (length a)) where
+  pub make-refused : eqb n 0 ≡ false → _≡_ {A = MakeOutcome} (record { number = n; arena = a }) (makeOf o a)
   unfolding makeOf
   make-refused p = rw (← e, p)
 
-  pub make-done : eqb n 0 ≡ true → _≡_ {A = Made} (record { number = n; arena = madeArena o a }) (makeOf o a)
+  pub make-done : eqb n 0 ≡ true → _≡_ {A = MakeOutcome} (record { number = n; arena = freshArena o a }) (makeOf o a)
   unfolding makeOf
   make-done p = rw (← e, p)
 
-  pub done-passed : eqb n 0 ≡ true → Passed o (length a)
+  pub done-passed : eqb n 0 ≡ true → MakingPassed o (length a)
   done-passed p = make-passed o (length a) (sym e ∙ eqb-true n 0 p)

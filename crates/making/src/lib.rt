@@ -1,9 +1,9 @@
 // Making an arena.
 use infoblock::put_info;
 use layout::Figures;
+use layout::fresh_figures;
+use layout::fresh_length;
 use layout::length_allowed;
-use layout::made_figures;
-use layout::made_length;
 use layout::sizes_allowed;
 use machine::answer::Answer;
 use words::put_word;
@@ -13,11 +13,12 @@ ghost use Prim.Native.Nat.{_+_, _*_, _≤_, _<_};
 ghost use lib.ListN.{length};
 ghost use Rattle.words.specs.Word.{putWords};
 ghost use Rattle.layout.specs.Place.{layoutOf};
+ghost use Rattle.layout.specs.Told.{alone};
 ghost use Rattle.infoblock.specs.Info.{infoWords};
-ghost use Rattle.machine.specs.Answer.{numberOf};
-ghost use Rattle.machine.specs.Making.{freshLane, freshFlog, dataEnd, tailWords, makeNumber, makeOf};
+ghost use Rattle.machine.specs.state.Answer.{numberOf};
+ghost use Rattle.machine.specs.calls.Making.{freshLane, freshFlog, dataEnd, tailWords, makeNumber, makeOf};
 ghost use Rattle.layout.specs.Fit.{Fit};
-ghost use Rattle.making.specs.Gave.{makeGave, orderOf};
+ghost use Rattle.making.specs.Gave.{makeGave, wantedOf};
 
 // Stores a fresh lane's 16 words from word i on.
 fn put_lane(a: &mut [u8], i: usize, sectors: u32, l: u32)
@@ -45,9 +46,10 @@ fn put_flog(a: &mut [u8], i: usize, sectors: u32, n: u32)
 
 // Stores all that follows the data blocks: padding, map, flog, padding and the copy of the info block.
 fn put_tail(a: &mut [u8], f: Figures, first: &[u8], second: &[u8])
-    requires { ⌜ Fit f (length (now a)) ⌝ }
+    requires { ⌜ Fit (alone .distance) f (length (now a)) ⌝ }
     requires { ⌜ (16 ≤ length (now first)) × (16 ≤ length (now second)) ⌝ }
-    ensures { λ _. ⌜ now (a .exit) ≡ putWords (now (a .entry)) (dataEnd (layoutOf f)) (tailWords (layoutOf f) (infoWords (now (first .entry)) (now (second .entry)) f)) ⌝ }
+    ensures { λ _. let g = layoutOf (alone .distance) f in
+        ⌜ now (a .exit) ≡ putWords (now (a .entry)) (dataEnd g) (tailWords g (infoWords (now (first .entry)) (now (second .entry)) f)) ⌝ }
 {
     let end = (f.dataoff / 4) as usize + (f.blocks as usize) * ((f.internal / 4) as usize);
     let flog = (f.flogoff / 4) as usize;
@@ -68,7 +70,7 @@ fn judge_make(
     first: &[u8],
     second: &[u8],
 ) -> Answer
-    ensures { λ r. ⌜ numberOf r ≡ makeNumber (orderOf size sectors lanes (now (first .entry)) (now (second .entry))) total ⌝ }
+    ensures { λ r. ⌜ numberOf r ≡ makeNumber (wantedOf size sectors lanes (now (first .entry)) (now (second .entry))) total ⌝ }
 {
     if !sizes_allowed(size, sectors, lanes) {
         return Answer::ForbiddenFigure;
@@ -76,7 +78,7 @@ fn judge_make(
     if !length_allowed(total) {
         return Answer::WrongLength;
     }
-    if total as u64 != made_length(size, sectors, lanes) {
+    if total as u64 != fresh_length(size, sectors, lanes) {
         return Answer::WrongLength;
     }
     if first.len() != 16 {
@@ -97,13 +99,14 @@ pub fn make(
     first: &[u8],
     second: &[u8],
 ) -> Answer
-    ensures { λ r. ⌜ makeGave r (now (arena .exit)) ≡ makeOf (orderOf size sectors lanes (now (first .entry)) (now (second .entry))) (now (arena .entry)) ⌝ }
+    ensures { λ r. ⌜ makeGave r (now (arena .exit))
+        ≡ makeOf (wantedOf size sectors lanes (now (first .entry)) (now (second .entry))) (now (arena .entry)) ⌝ }
 {
     let answer = judge_make(arena.len(), size, sectors, lanes, first, second);
     if !answer.is_done() {
         return answer;
     }
-    let f = made_figures(size, sectors, lanes);
+    let f = fresh_figures(size, sectors, lanes);
     put_info(arena, 0, first, second, f);
     put_tail(arena, f, first, second);
     answer

@@ -8,17 +8,36 @@ use native.Mathlib.Numerals.{add-one}
 use lib.Dec.{ltb}
 use lib.ListN.{length, take}
 use lib.Seq.{take-all, take-nil, take-append-le}
-use Rattle.layout.specs.Place.{Layout}
-use Rattle.machine.specs.Stores.{Store, stored, putAll}
-use Rattle.machine.specs.Flog.{newerHalf, logged, pending}
-use Rattle.machine.specs.Opening.{laneReadable, mendStore, mends, pendingLanes}
-use Rattle.machine.proofs.Once.{at-most-one}
-use Rattle.machine.proofs.Stores.{putAll-length}
-use Rattle.machine.proofs.Mends.{length-mends, pending-next, mends-take, mends-more, mends-same, mends-newer, mends-logged}
-use Rattle.machine.proofs.Ghosts.{Judged, pending-kept}
-use borrow.Author.Tests.{ltb-true, ltb-false}
-use Rattle.format.proofs.Tests.{by-bool}
-use Rattle.mend.specs.Mend.{mendedAt}
+use Rattle.layout.specs.Place.{Layout, layoutOf}
+use Rattle.layout.specs.declared.Figures.{Figures}
+use Rattle.machine.specs.state.Stores.{Store, stored, putAll}
+use Rattle.machine.specs.state.Flog.{newerHalf, newerWord, pending}
+use Rattle.machine.specs.calls.Opening.{laneReadable, mendStore, mends, pendingLanes, twoPending}
+use Rattle.machine.specs.words.InBytes.{Small}
+use Rattle.machine.proofs.stores.Once.{at-most-one}
+use Rattle.machine.proofs.stores.Stores.{putAll-length}
+use Rattle.machine.proofs.opening.Mends.{length-mends, pending-next, mends-take, mends-more, mends-same, mends-newer, mends-newerWord}
+use Rattle.machine.proofs.opening.Ghosts.{Consistent, pending-kept}
+use Rattle.machine.proofs.opening.Opens.{lanes-pass, words-pass}
+use borrow.Author.Tests.{ltb-true, ltb-false, not-false}
+use Rattle.format.proofs.Tests.{by-bool, or-false}
+use Rattle.lanes.proofs.Lanes.{fit-arena}
+use Rattle.mend.specs.Mend.{Mendable, mendedAt}
+
+-- an arena that can be mended, in its layout
+pub mendable-consistent : (d : ℕ) (f : Figures) (a : List ℕ) → Mendable d f a → Small a → Consistent (layoutOf d f) a
+mendable-consistent d f a m small =
+    let g = layoutOf d f in
+    let t = m .all in
+    let p = or-false (twoPending g a) _ (m .settled) in
+    record {
+      ok = t .fit .ok;
+      arena = fit-arena d f a (t .fit) small;
+      lanes = lanes-pass g a (t .lanes);
+      words = words-pass g a (t .words);
+      apart = p .0;
+      once = not-false _ (p .1);
+    }
 
 -- the arena with the first k mending stores of the lanes below l
 abbrev pub part : Layout → List ℕ → ℕ → ℕ → List ℕ
@@ -50,11 +69,12 @@ pub turn-full : (g : Layout) (a : List ℕ) (l : ℕ) (left : Bool) → pending 
 unfolding mendedAt
 turn-full g a l left e t = rw (e, t)
 
-pub turn-store : (g : Layout) (a : List ℕ) (l : ℕ) (left : Bool) → pending g a l ≡ true → left ≡ true → stored g (mendStore g a l) a ≡ mendedAt g a l left
+pub turn-store : (g : Layout) (a : List ℕ) (l : ℕ) (left : Bool) → pending g a l ≡ true → left ≡ true
+    → stored g (mendStore g a l) a ≡ mendedAt g a l left
 unfolding mendedAt
 turn-store g a l left e t = rw (e, t)
 
-module _ (g : Layout) (a : List ℕ) (j : Judged g a) (k l : ℕ) (u : l < g .N) where
+module _ (g : Layout) (a : List ℕ) (j : Consistent g a) (k l : ℕ) (u : l < g .N) where
   -- it is that of all stores of the lanes below some n
   some-lanes : (n : ℕ) × (n ≤ l) × (take k (mends g a l) ≡ mends g a n)
   some-lanes = let t = mends-take g a l k in (t .0, t .1, t .2)
@@ -68,15 +88,15 @@ module _ (g : Layout) (a : List ℕ) (j : Judged g a) (k l : ℕ) (u : l < g .N)
   part-newer : newerHalf g (part g a k l) l ≡ newerHalf g a l
   part-newer = rw part-is (mends-newer g (j .ok) a (j .arena) (j .lanes) (some-lanes .0) (omega (arith, some-lanes .1)) l u)
 
-  part-logged : (i : ℕ) → i < 4 → logged g (part g a k l) l i ≡ logged g a l i
-  part-logged i v = rw part-is (mends-logged g (j .ok) a (j .arena) (j .lanes) (some-lanes .0) (omega (arith, some-lanes .1)) l i u v)
+  part-newerWord : (i : ℕ) → i < 4 → newerWord g (part g a k l) l i ≡ newerWord g a l i
+  part-newerWord i v = rw part-is (mends-newerWord g (j .ok) a (j .arena) (j .lanes) (some-lanes .0) (omega (arith, some-lanes .1)) l i u v)
 
   pub part-readable : laneReadable g (part g a k l) l ≡ true
   unfolding laneReadable
-  part-readable = rw (part-logged 0 (omega arith), part-logged 1 (omega arith), part-logged 2 (omega arith), part-newer) (j .lanes l u)
+  part-readable = rw (part-newerWord 0 (omega arith), part-newerWord 1 (omega arith), part-newerWord 2 (omega arith), part-newer) (j .lanes l u)
 
   part-store : mendStore g (part g a k l) l ≡ mendStore g a l
-  part-store = rw (part-logged 0 (omega arith), part-logged 2 (omega arith))
+  part-store = rw (part-newerWord 0 (omega arith), part-newerWord 2 (omega arith))
 
   part-more : pending g a l ≡ true → pendingLanes g a l < k → stored g (mendStore g (part g a k l) l) (part g a k l) ≡ part g a k (suc l)
   part-more e v =
@@ -105,7 +125,9 @@ module _ (g : Layout) (a : List ℕ) (j : Judged g a) (k l : ℕ) (u : l < g .N)
   part-next : mendedAt g (part g a k l) l (ltb (pendingLanes g a l) k) ≡ part g a k (suc l)
   unfolding mendedAt
   part-next = rw part-pending (by-bool (pending g a l) _
-      (λ e. by-bool (ltb (pendingLanes g a l) k) _ (λ t. rw (e, t) (part-more e (ltb-true _ _ t))) (λ t. rw (e, t) (part-full (ltb-false _ _ t))))
+      (λ e. by-bool (ltb (pendingLanes g a l) k) _
+      (λ t. rw (e, t) (part-more e (ltb-true _ _ t)))
+      (λ t. rw (e, t) (part-full (ltb-false _ _ t))))
       (λ e. rw e (part-same e)))
 
   -- the loop's invariant after a turn

@@ -1,20 +1,19 @@
 -- Mending: what it asks of an arena, and one lane's turn of it.
-use mathlib.Core.Bool.{Bool, cond, _&&_}
+use mathlib.Core.Path.{_≡_}
+use mathlib.Core.Bool.{Bool, false, cond, _&&_}
 use mathlib.Core.List.{List}
 use Prim.Native.Nat.{ℕ}
-use lib.ListN.{length}
 use Rattle.layout.specs.Place.{Layout, layoutOf}
 use Rattle.layout.specs.declared.Figures.{Figures}
-use Rattle.machine.specs.Stores.{stored}
-use Rattle.machine.specs.Flog.{pending}
-use Rattle.machine.specs.Opening.{mendStore}
-use Rattle.machine.proofs.Ghosts.{Judged}
-use Rattle.layout.specs.Fit.{Fit}
+use Rattle.machine.specs.state.Stores.{stored}
+use Rattle.machine.specs.state.Flog.{pending}
+use Rattle.machine.specs.calls.Opening.{mendStore, unsettled}
+use Rattle.lanes.specs.Fit.{AllFit}
 
--- an arena that opening accepts, whatever the work buffer
-pub record Mendable (f : Figures) (a : List ℕ) : Type 0 where
-  pub fit : Fit f (length a)
-  pub judged : Judged (layoutOf f) a
+-- an arena that rules 6 to 8 let pass
+pub record Mendable (d : ℕ) (f : Figures) (a : List ℕ) : Type 0 where
+  pub all : AllFit d f a
+  pub settled : unsettled (layoutOf d f) a ≡ false
 
 -- the arena after lane l's turn: its store is made if it is pending and there is a store left to make
 unfoldable pub mendedAt : Layout → List ℕ → ℕ → Bool → List ℕ

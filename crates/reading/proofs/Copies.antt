@@ -72,6 +72,6 @@ module _ (b : List ℕ) (n : ℕ) (small : (j : ℕ) → getD b j 0 < 256) (whol
 
   pub zeroed : putWords b 0 (replicate n 0) ≡ replicate (4 * n) 0
   zeroed =
-      filled (replicate n 0) (replicate (4 * n) 0) (length-replicate n 0) (λ j. omega (arith, zeroes n j)) (λ j. omega (arith, zeroes (4 * n) j))
-      (length-replicate (4 * n) 0)
+      filled (replicate n 0) (replicate (4 * n) 0) (length-replicate n 0) (λ j. omega (arith, zeroes n j))
+      (λ j. omega (arith, zeroes (4 * n) j)) (length-replicate (4 * n) 0)
       (λ k l. zeroes n k ∙ sym (word-zeroes (4 * n) k))

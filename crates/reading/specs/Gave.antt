@@ -1,8 +1,8 @@
 -- What a read gave, in the form of its definition.
 use mathlib.Core.List.{List}
 use Prim.Native.Nat.{ℕ}
-use Rattle.machine.specs.Answer.{numberOf}
-use Rattle.machine.specs.Reading.{Read}
+use Rattle.machine.specs.state.Answer.{numberOf}
+use Rattle.machine.specs.calls.Reading.{Read}
 use Rattle.machine.specs.declared.answer.Answer.{Answer}
 
 abbrev pub readGave : Answer → List ℕ → Read

@@ -17,8 +17,9 @@ ghost use Prim.Native.Nat.{_+_, _*_, _≤_};
 ghost use lib.ListN.{length};
 ghost use Rattle.words.specs.Word.{putWords, wordsFrom};
 ghost use Rattle.format.specs.MapWord.{flagsOf, readingOf};
-ghost use Rattle.machine.specs.Answer.{numberOf};
-ghost use Rattle.machine.specs.Reading.{readOf, readNumber};
+ghost use Rattle.machine.specs.state.Answer.{numberOf};
+ghost use Rattle.machine.specs.state.Packed.{unpacked};
+ghost use Rattle.machine.specs.calls.Reading.{readOf, readNumber};
 ghost use Rattle.reading.specs.Gave.{readGave};
 
 // What a read of a sector with that map word gives: 0 zeroes, 1 the bad-sector answer, 2 the block's bytes.
@@ -32,9 +33,9 @@ fn reading_of(word: u32) -> u32
     }
 }
 
-// Why a read is refused: 16, 9, 10, 7, 15 in that order.
+// Judges a read: the first rule of its order that applies.
 fn judge_read(arena: &[u8], h: Handle, sector: SectorNo, buffer: &[u8]) -> Answer
-    ensures { λ r. ⌜ numberOf r ≡ readNumber (now (arena .entry)) h (sector .0) (now (buffer .entry)) ⌝ }
+    ensures { λ r. ⌜ numberOf r ≡ readNumber (now (arena .entry)) (unpacked h) (sector .0) (now (buffer .entry)) ⌝ }
 {
     if !handle_allowed(h, arena.len()) {
         return Answer::BadHandle;
@@ -71,7 +72,7 @@ fn copy_words(arena: &[u8], i: usize, buffer: &mut [u8], n: usize)
 
 // Reads a sector into a buffer of a sector's length: the block's bytes, or zeroes.
 pub fn read(arena: &[u8], h: Handle, sector: SectorNo, buffer: &mut [u8]) -> Answer
-    ensures { λ r. ⌜ readGave r (now (buffer .exit)) ≡ readOf (now (arena .entry)) h (sector .0) (now (buffer .entry)) ⌝ }
+    ensures { λ r. ⌜ readGave r (now (buffer .exit)) ≡ readOf (now (arena .entry)) (unpacked h) (sector .0) (now (buffer .entry)) ⌝ }
 {
     let answer = judge_read(arena, h, sector, &buffer[..]);
     if !answer.is_done() {

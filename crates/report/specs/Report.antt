@@ -5,7 +5,8 @@ use mathlib.Core.List.{List, _++_}
 use Prim.Native.Nat.{ℕ}
 use lib.Dec.{eqb, ltb}
 use lib.ListN.{length, drop, replicate}
-use Rattle.machine.specs.Opening.{Opening, openOf}
+use Rattle.layout.specs.Told.{alone}
+use Rattle.machine.specs.calls.Opening.{Opening, openOf}
 use Rattle.text.specs.Text.{refusedText, openedText}
 
 -- a report's text, and the input as opening leaves it
@@ -17,11 +18,15 @@ pub record Report : Type 0 where
 abbrev pub textOf : Opening → List ℕ
 textOf o = cond (eqb (o .number) 0) (openedText (o .handle) (o .mended)) (refusedText (o .number))
 
--- the arena is opened with a work buffer of 128 bytes; a longer input is refused with 1
+-- the work buffer that an input is opened with
+abbrev pub workBuffer : List ℕ
+workBuffer = replicate 128 0
+
+-- an input of more than 65,536 bytes is refused with 1
 unfoldable pub reportOf : List ℕ → Report
 reportOf a =
     cond (ltb 65536 (length a)) (record { text = refusedText 1; input = a })
-    (record { text = textOf (openOf a (replicate 128 0)); input = (openOf a (replicate 128 0)) .arena })
+    (record { text = textOf (openOf alone a workBuffer); input = (openOf alone a workBuffer) .arena })
 
 -- what a report leaves: so many bytes of text at the start of the buffer, the rest of it unchanged, and the input
 pub record Reported (r : Report) (bytes : ℕ) (input before after : List ℕ) : Type 0 where

@@ -2,6 +2,7 @@
 ghost use mathlib.Core.Path.{_≡_};
 ghost use lib.ListN.{length};
 
+mod claims;
 mod report;
 
 // Room for one byte more than the longest input that is not refused.

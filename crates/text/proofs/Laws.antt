@@ -1,6 +1,6 @@
 -- Laws of a text put into a buffer: two pieces that follow one another are one piece, so each function's text is the chain of its pieces.
 use mathlib.Core.Path.{_≡_, refl, sym, ap, _∙_}
-use mathlib.Core.List.{List, [], _∷_, _++_, map, append-assoc}
+use mathlib.Core.List.{List, [], _∷_, _++_, append-assoc}
 use Prim.Native.Nat.{ℕ, zero, suc, _+_, _-_, _/_, _%_, _≤_, _<_}
 use native.Mathlib.Nat.{add-zero, zero-add, le-of-lt}
 use native.Mathlib.Numerals.{add-one}
@@ -8,9 +8,8 @@ use native.Mathlib.Omega.{arith}
 use lib.ListN.{length, getD, set, take, drop, length-append}
 use lib.Seq.{sets, sets-eq, length-sets, take-suc, take-length, length-take-le}
 use borrow.Author.Tests.{lt-ltb, le-ltb}
-use Rattle.machine.specs.Handle.{laneAt}
+use Rattle.machine.specs.state.Handle.{Handle, laneAt}
 use Rattle.machine.specs.declared.lane.Lane.{Lane}
-use Rattle.machine.specs.declared.handle.Handle.{Handle}
 use Rattle.text.specs.Put.{Put}
 use Rattle.text.specs.Text as texts
 use Rattle.text.specs.Text.{digits, decimal, newline, refusedText, headText, laneText, lanesText, openedText}
@@ -80,15 +79,18 @@ pub refused-pieces : (n : ℕ) → line texts.refused n ≡ refusedText n
 unfolding refusedText
 refused-pieces n = simp append-assoc
 
-pub head-pieces : (a b c d : ℕ) → line texts.sectorBytes a ++ line texts.sectors b ++ line texts.lanes c ++ line texts.mendedWord d ≡ headText a b c d
+pub head-pieces : (a b c d : ℕ)
+    → line texts.sectorBytes a ++ line texts.sectors b ++ line texts.lanes c ++ line texts.mendedWord d ≡ headText a b c d
 unfolding headText
-head-pieces a b c d = four texts.sectorBytes (decimal a) texts.sectors (decimal b) texts.lanes (decimal c) texts.mendedWord (decimal d) newline
+head-pieces a b c d =
+    four texts.sectorBytes (decimal a) texts.sectors (decimal b) texts.lanes (decimal c) texts.mendedWord (decimal d) newline
   where
     four : (a x b y c z d w n : List ℕ) → (a ++ x ++ n) ++ (b ++ y ++ n) ++ (c ++ z ++ n) ++ (d ++ w ++ n)
         ≡ a ++ (x ++ (n ++ (b ++ (y ++ (n ++ (c ++ (z ++ (n ++ (d ++ (w ++ n))))))))))
     four a x b y c z d w n = simp append-assoc
 
-pub lane-pieces : (l : ℕ) (r : Lane) → named texts.lane l ++ named texts.free (r .block .0) ++ line texts.next (r .sequence .0) ≡ laneText l r
+pub lane-pieces : (l : ℕ) (r : Lane)
+    → named texts.lane l ++ named texts.free (r .block .0) ++ line texts.next (r .sequence .0) ≡ laneText l r
 unfolding laneText
 lane-pieces l r = three texts.lane (decimal l) texts.free (decimal (r .block .0)) texts.next (decimal (r .sequence .0)) newline
   where
@@ -96,7 +98,8 @@ lane-pieces l r = three texts.lane (decimal l) texts.free (decimal (r .block .0)
     three a x b y c z n = simp append-assoc
 
 pub opened-pieces : (h : Handle) (n : ℕ)
-    → headText (h .figures .size) (h .figures .sectors) (h .figures .lanes) n ++ lanesText (h .lanes) (h .figures .lanes) ++ (texts.opened ++ newline)
+    → headText (h .figures .size) (h .figures .sectors) (h .figures .lanes) n ++ lanesText (h .lanes) (h .figures .lanes)
+    ++ (texts.opened ++ newline)
     ≡ openedText h n
 unfolding openedText
 opened-pieces h n = simp append-assoc
@@ -112,15 +115,8 @@ unfolding lanesText
 lanes-more rs k p q = rw (add-one k) (put-append p q)
 
 -- a text from place 0 on
-pub whole : {l m text : List ℕ} {size : ℕ} → Put l m 0 size text → size ≤ length l → (size ≡ length text) × (m ≡ text ++ drop (length text) l)
+pub whole : {l m text : List ℕ} {size : ℕ} → Put l m 0 size text → size ≤ length l
+    → (size ≡ length text) × (m ≡ text ++ drop (length text) l)
 whole {l} {m} {text} {size} p h =
     let e : size ≡ length text = p .place ∙ zero-add _ in
     (e, p .bytes ∙ sets-eq text l 0 (omega arith) ∙ rw zero-add)
-
--- an array field's length, from what owning the struct tells
-length-map : {A B : Type 0} (f : A → B) (l : List A) → length (map f l) ≡ length l
-length-map f [] = refl
-length-map f (x ∷ l) = ap suc (length-map f l)
-
-pub unmapped : {A B : Type 0} (f : A → B) (l : List A) (n : ℕ) → length (map f l) ≡ n → length l ≡ n
-unmapped f l n e = sym (length-map f l) ∙ e

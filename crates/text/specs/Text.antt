@@ -2,10 +2,9 @@
 use mathlib.Core.Bool.{cond}
 use mathlib.Core.List.{List, [], _∷_, _++_}
 use Prim.Native.Nat.{ℕ, zero, suc, _+_, _/_, _%_}
-use lib.Dec.{ltb, eqb}
-use Rattle.machine.specs.Handle.{laneAt}
+use lib.Dec.{ltb}
+use Rattle.machine.specs.state.Handle.{Handle, laneAt}
 use Rattle.machine.specs.declared.lane.Lane.{Lane}
-use Rattle.machine.specs.declared.handle.Handle.{Handle}
 
 -- the last digits of n, at most k of them
 unfoldable pub digits : ℕ → ℕ → List ℕ

@@ -5,6 +5,8 @@ ghost use mathlib.Core.Path.{_≡_};
 ghost use mathlib.Core.List.{_++_};
 ghost use Prim.Native.Nat.{_+_, _≤_};
 ghost use lib.ListN.{length, drop};
+ghost use Rattle.layout.specs.Figures.{maxLanes};
+ghost use Rattle.machine.specs.state.Packed.{unpacked};
 ghost use Rattle.text.specs.Text.{digits, decimal, newline, refusedText, headText, laneText, lanesText, openedText};
 ghost use Rattle.text.specs.Put.{Put};
 
@@ -81,8 +83,8 @@ fn put_lane(out: &mut [u8], at: usize, l: u32, lane: Lane) -> usize
 
 // The lines of the lanes.
 fn put_lanes(out: &mut [u8], at: usize, h: Handle) -> usize
-    requires { ⌜ (h .figures .lanes ≤ 16) × (at + 768 ≤ length (now out)) ⌝ }
-    ensures { λ r. ⌜ Put (now (out .entry)) (now (out .exit)) at r (lanesText (h .lanes) (h .figures .lanes)) × (r ≤ at + 768) ⌝ }
+    requires { ⌜ (h .figures .lanes ≤ maxLanes) × (at + 768 ≤ length (now out)) ⌝ }
+    ensures { λ r. ⌜ Put (now (out .entry)) (now (out .exit)) at r (lanesText (unpacked h .lanes) (h .figures .lanes)) × (r ≤ at + 768) ⌝ }
 {
     let n = h.figures.lanes;
     let mut l: u32 = 0;
@@ -105,9 +107,9 @@ pub fn put_refused(out: &mut [u8; 1024], n: u32) -> usize
 
 // The report on an opened arena.
 pub fn put_opened(out: &mut [u8; 1024], h: Handle, mended: u32) -> usize
-    requires { ⌜ h .figures .lanes ≤ 16 ⌝ }
-    ensures { λ r. ⌜ (r ≡ length (openedText h mended))
-        × (now (out .exit) ≡ openedText h mended ++ drop (length (openedText h mended)) (now (out .entry))) ⌝ }
+    requires { ⌜ h .figures .lanes ≤ maxLanes ⌝ }
+    ensures { λ r. ⌜ (r ≡ length (openedText (unpacked h) mended))
+        × (now (out .exit) ≡ openedText (unpacked h) mended ++ drop (length (openedText (unpacked h) mended)) (now (out .entry))) ⌝ }
 {
     let figures = h.figures;
     let a = put_head(out, figures.size, figures.sectors, figures.lanes, mended);

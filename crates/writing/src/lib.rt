@@ -5,6 +5,7 @@ use format::numbers::SectorNo;
 use lanes::map_block;
 use lanes::map_word;
 use layout::Figures;
+use layout::alone;
 use machine::answer::Answer;
 use machine::handle::Handle;
 use machine::handle::handle_allowed;
@@ -13,17 +14,21 @@ use stores::put_store;
 use stores::put_stores;
 ghost use mathlib.Core.Path.{_≡_};
 ghost use mathlib.Core.Bool.{_&&_};
-ghost use Prim.Native.Nat.{_+_, _/_, _≤_, _<_};
+ghost use Prim.Native.Nat.{ℕ, _+_, _/_, _≤_, _<_};
 ghost use lib.ListN.{length};
 ghost use lib.Dec.{eqb};
+ghost use Rattle.layout.specs.Figures.{maxLanes, maxSize};
 ghost use Rattle.layout.specs.Place.{layoutOf};
 ghost use Rattle.layout.specs.Fit.{Fit};
-ghost use Rattle.machine.specs.Answer.{numberOf};
-ghost use Rattle.machine.specs.Flog.{mapBlock};
-ghost use Rattle.machine.specs.Handle.{laneAt};
-ghost use Rattle.machine.specs.Lane.{startedLane};
-ghost use Rattle.machine.specs.Writing.{laneStored, withLane, inFlight, startOf, stepNumber, stepOf, writeOf};
-ghost use Rattle.writing.specs.Gave.{stepGave, WriteGives};
+ghost use Rattle.layout.specs.Told.{alone};
+ghost use Rattle.machine.specs.state.Answer.{numberOf};
+ghost use Rattle.machine.specs.state.Flog.{mapBlock};
+ghost use Rattle.machine.specs.state.Handle.{laneAt, laidOut, withLane};
+ghost use Rattle.machine.specs.state.Lane.{isBusy, startedLane};
+ghost use Rattle.machine.specs.state.Packed.{unpacked, repacked};
+ghost use Rattle.machine.specs.calls.Judging.{inFlight};
+ghost use Rattle.machine.specs.calls.Writing.{laneStored, startOf, stepNumber, stepOf, writeOf};
+ghost use Rattle.writing.specs.Gave.{packedOutcome, stepGave, WriteGives};
 
 // What a start, a step or a whole write gives: the answer, and the handle as it then is.
 pub struct Stepped {
@@ -33,22 +38,23 @@ pub struct Stepped {
 
 // Whether a lane's record has a sector in flight.
 fn flies(r: Lane, sector: SectorNo) -> bool
-    ensures { λ t. ⌜ t ≡ (r .busy && eqb (r .sector .0) (sector .0)) ⌝ }
+    ensures { λ t. ⌜ t ≡ (isBusy r && eqb (r .sector .0) (sector .0)) ⌝ }
 {
-    if !r.busy {
+    if !r.is_busy() {
         return false;
     }
     r.sector.0 == sector.0
 }
 
-// Whether one of the first n lanes has a sector in flight.
-fn in_flight(h: Handle, n: u32, sector: SectorNo) -> bool
-    requires { ⌜ n ≤ 16 ⌝ }
-    ensures { λ t. ⌜ t ≡ inFlight (h .lanes) n (sector .0) ⌝ }
+// Whether a lane has a sector in flight.
+fn in_flight(h: Handle, sector: SectorNo) -> bool
+    requires { ⌜ h .figures .lanes ≤ maxLanes ⌝ }
+    ensures { λ t. ⌜ t ≡ inFlight (unpacked h .lanes) (h .figures .lanes) (sector .0) ⌝ }
 {
-    let end = n as usize;
+    let f = h.figures;
+    let n = f.lanes as usize;
     let mut i: usize = 0;
-    while i < end {
+    while i < n {
         let r = h.lanes[i];
         if flies(r, sector) {
             return true;
@@ -58,19 +64,19 @@ fn in_flight(h: Handle, n: u32, sector: SectorNo) -> bool
     false
 }
 
-// The handle with one record replaced.
+// The handle with a lane's record replaced.
 fn with_lane(mut h: Handle, lane: LaneNo, r: Lane) -> Handle
-    requires { ⌜ lane .0 < 16 ⌝ }
-    ensures { λ g. ⌜ g ≡ withLane h (lane .0) r ⌝ }
+    requires { ⌜ (lane .0 < h .figures .lanes) × (h .figures .lanes ≤ maxLanes) ⌝ }
+    ensures { λ g. ⌜ g ≡ repacked h (withLane (unpacked h) (lane .0) r) ⌝ }
 {
     let i = lane.0 as usize;
     h.lanes[i] = r;
     h
 }
 
-// Judges a write whose buffer fits, or not: 16, 11, 12, 9, 10, 13, 7.
+// Judges a write whose buffer fits, or not: the first rule of its order that applies.
 fn judge_write(arena: &[u8], h: Handle, lane: LaneNo, sector: SectorNo, fits: bool) -> Answer
-    ensures { λ r. ⌜ WriteGives (now (arena .entry)) h (lane .0) (sector .0) fits (numberOf r) ⌝ }
+    ensures { λ r. ⌜ WriteGives (now (arena .entry)) (unpacked h) (lane .0) (sector .0) fits (numberOf r) ⌝ }
 {
     if !handle_allowed(h, arena.len()) {
         return Answer::BadHandle;
@@ -81,7 +87,7 @@ fn judge_write(arena: &[u8], h: Handle, lane: LaneNo, sector: SectorNo, fits: bo
     }
     let i = lane.0 as usize;
     let r = h.lanes[i];
-    if r.busy {
+    if r.is_busy() {
         return Answer::LaneBusy;
     }
     if f.sectors <= sector.0 {
@@ -90,7 +96,7 @@ fn judge_write(arena: &[u8], h: Handle, lane: LaneNo, sector: SectorNo, fits: bo
     if !fits {
         return Answer::WrongBuffer;
     }
-    if in_flight(h, f.lanes, sector) {
+    if in_flight(h, sector) {
         return Answer::SectorBusy;
     }
     if bad_word(f.blocks, map_word(arena, f, sector)) {
@@ -101,8 +107,10 @@ fn judge_write(arena: &[u8], h: Handle, lane: LaneNo, sector: SectorNo, fits: bo
 
 // A lane's record with a write to a sector begun.
 fn begun(arena: &[u8], h: Handle, lane: LaneNo, sector: SectorNo) -> Lane
-    requires { ⌜ Fit (h .figures) (length (now arena)) × (lane .0 < h .figures .lanes) × (sector .0 < h .figures .sectors) ⌝ }
-    ensures { λ r. ⌜ r ≡ startedLane (laneAt (h .lanes) (lane .0)) (sector .0) (mapBlock (layoutOf (h .figures)) (now (arena .entry)) (sector .0)) ⌝ }
+    requires { ⌜ Fit (alone .distance) (h .figures) (length (now arena)) ⌝ }
+    requires { ⌜ (lane .0 < h .figures .lanes) × (sector .0 < h .figures .sectors) ⌝ }
+    ensures { λ r. ⌜ r ≡ startedLane (laneAt (unpacked h .lanes) (lane .0)) (sector .0)
+        (mapBlock (laidOut (unpacked h)) (now (arena .entry)) (sector .0)) ⌝ }
 {
     let i = lane.0 as usize;
     let r = h.lanes[i];
@@ -112,7 +120,7 @@ fn begun(arena: &[u8], h: Handle, lane: LaneNo, sector: SectorNo) -> Lane
 
 // Starts a write to a sector on an idle lane; nothing is stored. It is judged as a write whose buffer fits.
 pub fn start(arena: &[u8], h: Handle, lane: LaneNo, sector: SectorNo) -> Stepped
-    ensures { λ r. ⌜ stepGave r (now (arena .entry)) ≡ startOf (now (arena .entry)) h (lane .0) (sector .0) ⌝ }
+    ensures { λ r. ⌜ stepGave r (now (arena .entry)) ≡ packedOutcome h (startOf (now (arena .entry)) (unpacked h) (lane .0) (sector .0)) ⌝ }
 {
     let answer = judge_write(arena, h, lane, sector, true);
     if !answer.is_done() {
@@ -131,8 +139,8 @@ pub fn start(arena: &[u8], h: Handle, lane: LaneNo, sector: SectorNo) -> Stepped
 
 // The record after one more store.
 fn moved(f: Figures, r: Lane) -> Lane
-    requires { ⌜ (r .half < 2) × (r .made < f .size / 4 + 5) × (f .size ≤ 4096) ⌝ }
-    ensures { λ t. ⌜ t ≡ laneStored (layoutOf f) r ⌝ }
+    requires { ⌜ (r .half < 2) × (r .made < f .size / 4 + 5) × (f .size ≤ maxSize) ⌝ }
+    ensures { λ t. ⌜ ((d : ℕ) → t ≡ laneStored (layoutOf d f) r) ⌝ }
 {
     if r.made + 1 == f.size / 4 + 5 {
         return r.finished();
@@ -140,9 +148,9 @@ fn moved(f: Figures, r: Lane) -> Lane
     r.stored()
 }
 
-// Judges a step: 16, 11, 14, 10.
+// Judges a step: the first rule of its order that applies.
 fn judge_step(arena: &[u8], h: Handle, lane: LaneNo, buffer: &[u8]) -> Answer
-    ensures { λ r. ⌜ numberOf r ≡ stepNumber (now (arena .entry)) h (lane .0) (now (buffer .entry)) ⌝ }
+    ensures { λ r. ⌜ numberOf r ≡ stepNumber (now (arena .entry)) (unpacked h) (lane .0) (now (buffer .entry)) ⌝ }
 {
     if !handle_allowed(h, arena.len()) {
         return Answer::BadHandle;
@@ -153,7 +161,7 @@ fn judge_step(arena: &[u8], h: Handle, lane: LaneNo, buffer: &[u8]) -> Answer
     }
     let i = lane.0 as usize;
     let r = h.lanes[i];
-    if !r.busy {
+    if !r.is_busy() {
         return Answer::LaneIdle;
     }
     if buffer.len() != f.size as usize {
@@ -164,7 +172,8 @@ fn judge_step(arena: &[u8], h: Handle, lane: LaneNo, buffer: &[u8]) -> Answer
 
 // Makes the next store of a lane's write.
 pub fn step(arena: &mut [u8], h: Handle, lane: LaneNo, buffer: &[u8]) -> Stepped
-    ensures { λ r. ⌜ stepGave r (now (arena .exit)) ≡ stepOf (now (arena .entry)) h (lane .0) (now (buffer .entry)) ⌝ }
+    ensures { λ r. ⌜ stepGave r (now (arena .exit))
+        ≡ packedOutcome h (stepOf (now (arena .entry)) (unpacked h) (lane .0) (now (buffer .entry))) ⌝ }
 {
     let answer = judge_step(arena, h, lane, buffer);
     if !answer.is_done() {
@@ -176,7 +185,7 @@ pub fn step(arena: &mut [u8], h: Handle, lane: LaneNo, buffer: &[u8]) -> Stepped
     let f = h.figures;
     let i = lane.0 as usize;
     let r = h.lanes[i];
-    put_store(arena, f, lane, r, buffer, r.made);
+    put_store(arena, f, alone().distance, lane, r, buffer, r.made);
     let after = moved(f, r);
     let next = with_lane(h, lane, after);
     Stepped {
@@ -187,7 +196,8 @@ pub fn step(arena: &mut [u8], h: Handle, lane: LaneNo, buffer: &[u8]) -> Stepped
 
 // Makes a whole write: start and all steps in one call, refused before any store.
 pub fn write(arena: &mut [u8], h: Handle, lane: LaneNo, sector: SectorNo, buffer: &[u8]) -> Stepped
-    ensures { λ r. ⌜ stepGave r (now (arena .exit)) ≡ writeOf (now (arena .entry)) h (lane .0) (sector .0) (now (buffer .entry)) ⌝ }
+    ensures { λ r. ⌜ stepGave r (now (arena .exit))
+        ≡ packedOutcome h (writeOf (now (arena .entry)) (unpacked h) (lane .0) (sector .0) (now (buffer .entry))) ⌝ }
 {
     let fits = buffer.len() == h.figures.size as usize;
     let answer = judge_write(arena, h, lane, sector, fits);
@@ -198,7 +208,7 @@ pub fn write(arena: &mut [u8], h: Handle, lane: LaneNo, sector: SectorNo, buffer
         };
     }
     let r = begun(arena, h, lane, sector);
-    put_stores(arena, h.figures, lane, r, buffer);
+    put_stores(arena, h.figures, alone().distance, lane, r, buffer);
     let done = r.finished();
     let next = with_lane(h, lane, done);
     Stepped {

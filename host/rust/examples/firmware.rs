@@ -4,7 +4,7 @@
 //! write and the block of another. On a block translation table it never is; on bare sectors, overwritten in place, it is.
 //!
 //!     cargo run --release --manifest-path host/rust/Cargo.toml --example firmware
-use btt::{AlignedBytes, Answer, Arena, Geometry, Identifiers, Volume};
+use btt::{AlignedBytes, Answer, Arena, Geometry, Identifiers, OpenArena};
 use std::error::Error;
 use std::fs::{self, File, OpenOptions};
 use std::os::unix::fs::FileExt;
@@ -76,7 +76,7 @@ trait Disk {
 
 /// Sectors on the table. The bytes are the module's; where a file stands for the module, each store goes to it as well.
 struct Table<'a> {
-    volume: Volume<'a>,
+    opened: OpenArena<'a>,
     file: Option<&'a File>,
     power: Power,
 }
@@ -84,20 +84,20 @@ struct Table<'a> {
 impl<'a> Table<'a> {
     fn open(module: &'a mut AlignedBytes, power: usize) -> Result<Table<'a>, Stop> {
         let arena = Arena::new(module).map_err(|error| Stop::Failed(error.into()))?;
-        Ok(Table { volume: Volume::open(arena)?, file: None, power: Power(power) })
+        Ok(Table { opened: OpenArena::open(arena)?, file: None, power: Power(power) })
     }
 }
 
 impl Disk for Table<'_> {
     fn read(&self, sector: u32) -> Result<Sector, Stop> {
         let mut bytes = [0; SIZE];
-        self.volume.read_sector(sector, &mut bytes)?;
+        self.opened.read_sector(sector, &mut bytes)?;
         Ok(bytes)
     }
 
     fn write(&mut self, sector: u32, bytes: &Sector) -> Result<(), Stop> {
         self.power.left()?;
-        self.volume.write_sector_by_steps(sector, bytes, |store| {
+        self.opened.write_sector_by_steps(sector, bytes, |store| {
             if let Some(file) = self.file {
                 file.write_all_at(&store.word, store.offset)?;
             }
@@ -257,7 +257,7 @@ fn with_table_on_a_file(start: &AlignedBytes, file: &File) -> Result<Tally, Stop
         let mut module = AlignedBytes::from(&found[..]);
         let mut disk = Table::open(&mut module, 280 + 7 * tally.cuts)?;
         // What opening mended is stored in the file too; with one lane that is one word at most.
-        for (at, word) in disk.volume.arena().bytes().chunks(4).enumerate() {
+        for (at, word) in disk.opened.arena().bytes().chunks(4).enumerate() {
             if *word != found[4 * at..][..4] {
                 file.write_all_at(word, 4 * at as u64)?;
             }

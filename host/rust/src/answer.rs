@@ -105,7 +105,7 @@ impl fmt::Display for Answer {
             }
             Answer::FlagsSet => "the info block has flags set, of which none is known",
             Answer::ShortWorkBuffer => "the work buffer is too short: opening needs a byte for each block, that is for each sector and each lane",
-            Answer::LostLane => "the log of a lane is damaged: it has no newer half, or one that names a sector or a block that is not there",
+            Answer::LostLane => "the flog of a lane is damaged: it has no newer half, or one that names a sector or a block that is not there",
             Answer::BadMapWord => "the map is damaged: a word of it names a block that is not there",
             Answer::NotValid => "the arena is damaged: some block is mapped or free more than once, and another not at all",
             Answer::NoSuchSector => "the arena has no such sector: sectors are numbered from 0 to one less than their count",

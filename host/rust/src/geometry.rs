@@ -52,6 +52,23 @@ impl Geometry {
         let length = [4096, data, 4 * sectors, 64 * lanes, 4096].map(|part| part.next_multiple_of(4096)).iter().sum();
         (length <= MAX_ARENA as u64).then_some(length)
     }
+
+    /// The figures with the most sectors whose arena is at most so many bytes long, or none if no arena of that size and so many lanes
+    /// is.
+    ///
+    /// ```
+    /// use btt::Geometry;
+    ///
+    /// let most = Geometry::fitting(16_777_216, 4096, 4).unwrap();
+    /// assert_eq!(most, Geometry { size: 4096, sectors: 4085, lanes: 4 });
+    /// assert_eq!(Geometry::fitting(49_152, 512, 4).unwrap().made_length(), Some(49_152));
+    /// assert_eq!(Geometry::fitting(20_479, 512, 1), None);
+    /// ```
+    pub fn fitting(bytes: u64, size: u32, lanes: u32) -> Option<Geometry> {
+        let most = bytes.min(MAX_ARENA as u64).checked_div(u64::from(size))? as u32;
+        let fits = |geometry: &Geometry| geometry.made_length().is_some_and(|length| length <= bytes);
+        (lanes..=most).rev().map(|sectors| Geometry { size, sectors, lanes }).find(fits)
+    }
 }
 
 /// The two identifiers that an arena carries, 16 bytes each; the table has no use for them.

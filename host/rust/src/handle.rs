@@ -1,4 +1,5 @@
 //! The handle that opening gives, and the records of its lanes.
+use std::mem;
 
 /// The most lanes that an arena has, and the records that a handle holds.
 pub const MAX_LANES: usize = 16;
@@ -8,9 +9,6 @@ pub const HANDLE_SIZE: usize = 512;
 
 /// The bytes of a lane's record.
 pub const LANE_SIZE: usize = 28;
-
-/// The byte of a handle at which its first record starts.
-const RECORDS: usize = 64;
 
 /// The record of one lane in a [`Handle`].
 ///
@@ -38,29 +36,6 @@ impl Lane {
     /// Whether the lane has no write in flight.
     pub fn is_idle(&self) -> bool {
         self.busy == 0
-    }
-
-    /// The record that 28 bytes stand for, seven little-endian words.
-    pub fn from_bytes(bytes: &[u8; LANE_SIZE]) -> Lane {
-        Lane {
-            busy: word(bytes, 0),
-            block: word(bytes, 4),
-            half: word(bytes, 8),
-            sequence: word(bytes, 12),
-            sector: word(bytes, 16),
-            old: word(bytes, 20),
-            made: word(bytes, 24),
-        }
-    }
-
-    /// The record as 28 bytes.
-    pub fn to_bytes(&self) -> [u8; LANE_SIZE] {
-        let words = [self.busy, self.block, self.half, self.sequence, self.sector, self.old, self.made];
-        let mut bytes = [0; LANE_SIZE];
-        for (place, word) in bytes.chunks_exact_mut(4).zip(words) {
-            place.copy_from_slice(&word.to_le_bytes());
-        }
-        bytes
     }
 }
 
@@ -110,42 +85,14 @@ const _: () = assert!(size_of::<Lane>() == LANE_SIZE && size_of::<Handle>() == H
 impl Handle {
     /// The handle that 512 bytes stand for. Any bytes do.
     pub fn from_bytes(bytes: &[u8; HANDLE_SIZE]) -> Handle {
-        let mut lane = [Lane::default(); MAX_LANES];
-        let (records, _) = bytes[RECORDS..].as_chunks::<LANE_SIZE>();
-        for (record, bytes) in lane.iter_mut().zip(records) {
-            *record = Lane::from_bytes(bytes);
-        }
-        Handle {
-            length: long(bytes, 0),
-            data: long(bytes, 8),
-            map: long(bytes, 16),
-            flog: long(bytes, 24),
-            copy: long(bytes, 32),
-            size: word(bytes, 40),
-            sectors: word(bytes, 44),
-            internal: word(bytes, 48),
-            blocks: word(bytes, 52),
-            lanes: word(bytes, 56),
-            reserved: word(bytes, 60),
-            lane,
-        }
+        // SAFETY: a handle is 512 bytes of numbers without padding, and any bytes make numbers.
+        unsafe { mem::transmute(*bytes) }
     }
 
     /// The handle as 512 bytes, little-endian, as the library sees it.
     pub fn to_bytes(&self) -> [u8; HANDLE_SIZE] {
-        let mut bytes = [0; HANDLE_SIZE];
-        let longs = [self.length, self.data, self.map, self.flog, self.copy];
-        for (place, long) in bytes[..40].chunks_exact_mut(8).zip(longs) {
-            place.copy_from_slice(&long.to_le_bytes());
-        }
-        let words = [self.size, self.sectors, self.internal, self.blocks, self.lanes, self.reserved];
-        for (place, word) in bytes[40..RECORDS].chunks_exact_mut(4).zip(words) {
-            place.copy_from_slice(&word.to_le_bytes());
-        }
-        for (place, record) in bytes[RECORDS..].chunks_exact_mut(LANE_SIZE).zip(&self.lane) {
-            place.copy_from_slice(&record.to_bytes());
-        }
-        bytes
+        // SAFETY: a handle is 512 bytes of numbers without padding, so that each byte has a value.
+        unsafe { mem::transmute(*self) }
     }
 
     /// The bytes of a sector.
@@ -169,16 +116,6 @@ impl Handle {
     }
 }
 
-/// The little-endian word at a byte offset.
-fn word(bytes: &[u8], at: usize) -> u32 {
-    u32::from_le_bytes([bytes[at], bytes[at + 1], bytes[at + 2], bytes[at + 3]])
-}
-
-/// The little-endian double word at a byte offset.
-fn long(bytes: &[u8], at: usize) -> u64 {
-    u64::from(word(bytes, at)) | u64::from(word(bytes, at + 4)) << 32
-}
-
 #[cfg(test)]
 mod tests {
     use super::*;
@@ -190,18 +127,6 @@ mod tests {
             *byte = (i * 7 + i / 256) as u8;
         }
         assert_eq!(Handle::from_bytes(&bytes).to_bytes(), bytes);
-    }
-
-    #[test]
-    fn bytes_are_those_that_lie_in_memory() {
-        let mut bytes = [0; HANDLE_SIZE];
-        for (i, byte) in bytes.iter_mut().enumerate() {
-            *byte = (i * 5 + 1) as u8;
-        }
-        let handle = Handle::from_bytes(&bytes);
-        // SAFETY: a handle is 512 bytes without padding, and lives while its bytes are looked at.
-        let seen = unsafe { std::slice::from_raw_parts((&raw const handle).cast::<u8>(), HANDLE_SIZE) };
-        assert_eq!(seen, bytes);
     }
 
     #[test]

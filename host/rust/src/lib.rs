@@ -2,16 +2,17 @@
 //! lends.
 //!
 //! A sector that is overwritten in place is torn when the power goes in the middle: a part of it is old and a part new. A block
-//! translation table writes the new bytes to a free block, notes in a log what it is about to do, and then turns one word of a map.
+//! translation table writes the new bytes to a free block, notes in a flog what it is about to do, and then turns one word of a map.
 //! Whenever the power goes, the sector is the old one or the new one, whole.
 //!
 //! This crate is a safe wrapper of a library that is proved: every call answers for every input, an arena behaves as a plain row of
 //! sectors, and a power cut at any store, or at any store of the opening after it, tears no sector. What is proved, and what is
-//! assumed, stands in the README of the repository. The wrapper itself is not proved; it checks one thing, that the arena's address
-//! is a multiple of 4, and Rust's borrows see to the rest that the library asks: slices that lie apart, and no one else that stores.
+//! assumed, stands in docs/PROOFS.md of the repository, and the format with its rules in docs/FORMAT.md. The wrapper itself is not
+//! proved; it checks one thing, that the arena's address is a multiple of 4, and Rust's borrows see to the rest that the library
+//! asks: slices that lie apart, and no one else that stores.
 //!
 //! ```
-//! use btt::{AlignedBytes, Arena, Geometry, Identifiers, Volume};
+//! use btt::{AlignedBytes, Arena, Geometry, Identifiers, OpenArena};
 //!
 //! # fn main() -> Result<(), Box<dyn std::error::Error>> {
 //! let geometry = Geometry { size: 512, sectors: 60, lanes: 4 };
@@ -19,18 +20,18 @@
 //! let mut arena = Arena::new(&mut memory)?;
 //! arena.make(geometry, Identifiers::ZEROES)?;
 //!
-//! let mut volume = Volume::open(arena)?;
-//! volume.write_sector(7, &[1; 512])?;
+//! let mut opened = OpenArena::open(arena)?;
+//! opened.write_sector(7, &[1; 512])?;
 //! # let mut sector = [0; 512];
-//! # volume.read_sector(7, &mut sector)?;
+//! # opened.read_sector(7, &mut sector)?;
 //! # assert_eq!(sector, [1; 512]);
 //! # Ok(())
 //! # }
 //! ```
 //!
-//! [`Volume`] is enough for most. Below it are the calls: [`Arena`] and, for those that only read, [`ArenaRef`], with a [`Handle`]
+//! [`OpenArena`] is enough for most. Below it are the calls: [`Arena`] and, for those that only read, [`ArenaRef`], with a [`Handle`]
 //! that opening gives and the host keeps. A refusal is an [`Answer`] with the number of the library's table. Nothing is kept between
-//! calls and nothing is allocated below [`Volume`] and [`AlignedBytes`].
+//! calls and nothing is allocated below [`OpenArena`] and [`AlignedBytes`].
 //!
 //! # Power cuts
 //!
@@ -67,14 +68,14 @@
 //!
 //! - **Map the module uncached or write-through.** Stores then leave the processor in program order, for a memory controller whose
 //!   queue such platforms save at a power cut (ADR). Whole writes
-//!   ([`Arena::write`], [`Volume::write_sector`]) and [`Arena::open`] need this, or the next, since nothing can be done between
+//!   ([`Arena::write`], [`OpenArena::write_sector`]) and [`Arena::open`] need this, or the next, since nothing can be done between
 //!   their stores. They also rest on the compiled library storing in the order of its source, which a step does not. A
 //!   write-combining mapping does not keep the order.
 //! - **Use a platform whose caches are saved at a power cut** (eADR). On x86-64 stores become visible in program order, and what is
 //!   visible is kept.
 //! - **Flush and fence after each step**, on an ordinary write-back mapping: ask [`Arena::next_store`] for the offset, make the step,
 //!   write back the cache line of that offset (`clwb`, `clflushopt` or `clflush`), fence (`sfence`), and only then make the next step.
-//!   [`Volume::write_sector_by_steps`] calls the host after each step. So at most one store is on its way at any time.
+//!   [`OpenArena::write_sector_by_steps`] calls the host after each step. So at most one store is on its way at any time.
 //!
 //! On a file each store is one write of four bytes at its offset, in order, which withstands a killed process; to withstand a power
 //! cut as well the file is synchronised before the sequence word, after it and after the map word. The command `btt write` does so.
@@ -103,14 +104,14 @@ mod answer;
 mod arena;
 mod geometry;
 mod handle;
+mod open_arena;
 pub mod sys;
 mod view;
-mod volume;
 
 pub use aligned::AlignedBytes;
 pub use answer::Answer;
 pub use arena::{Arena, Opened};
 pub use geometry::{Geometry, Identifiers, ID_SIZE, INFO_SIZE, MAX_ARENA, MAX_BLOCKS, MIN_ARENA};
 pub use handle::{Handle, Lane, HANDLE_SIZE, LANE_SIZE, MAX_LANES};
+pub use open_arena::{OpenArena, Store};
 pub use view::{ArenaRef, Misaligned};
-pub use volume::{Store, Volume};

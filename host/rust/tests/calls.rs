@@ -1,10 +1,12 @@
-//! Rust callers of every function: the worked figures of document 01, and each refusal.
-mod model;
+//! Rust callers of every function: the worked figures of docs/FORMAT.md, and each refusal.
+mod support;
 
-use btt::{AlignedBytes, Answer, Arena, ArenaRef, Geometry, Handle, Identifiers, Lane, Misaligned, Opened, Volume, MAX_BLOCKS};
-use model::{put_word, seal};
+use btt::{
+    AlignedBytes, Answer, Arena, ArenaRef, Geometry, Handle, Identifiers, Lane, Misaligned, OpenArena, Opened, MAX_BLOCKS,
+};
+use plain::{put_word, seal, word};
+use support::GEOMETRY;
 
-const GEOMETRY: Geometry = Geometry { size: 512, sectors: 60, lanes: 4 };
 const MAP: usize = 36_864;
 const FLOG: usize = 40_960;
 
@@ -60,9 +62,9 @@ fn a_write_makes_the_stores_of_case_9() {
         arena.step(&mut handle, 0, &buffer).unwrap();
         let (after, outside) = (arena.bytes(), |i: &usize| !(offset..offset + 4).contains(i));
         assert!((0..before.len()).filter(outside).all(|i| before[i] == after[i]));
-        offsets.push((offset, model::word(after, offset)));
+        offsets.push((offset, word(after, offset)));
     }
-    let mut expected: Vec<(usize, u32)> = (0..128).map(|i| (34_816 + 4 * i, model::word(&buffer, 4 * i))).collect();
+    let mut expected: Vec<(usize, u32)> = (0..128).map(|i| (34_816 + 4 * i, word(&buffer, 4 * i))).collect();
     expected.extend([(40_976, 7), (40_980, 7), (40_984, 60), (40_988, 2), (36_892, 0xC000_003C)]);
     assert_eq!(offsets, expected);
     assert_eq!(arena.lane(&handle, 0), Ok(Lane { block: 7, half: 0, sequence: 3, ..Lane::default() }));
@@ -95,13 +97,13 @@ fn halves_are_judged_as_in_cases_6_to_8() {
             put_word(memory, FLOG + 64 * lane + 16 + 4 * i, word);
         }
     };
-    for (word, mended) in [(0, 1), (0xC000_003C, 0)] {
+    for (found, mended) in [(0, 1), (0xC000_003C, 0)] {
         let mut memory = fresh();
         half(&mut memory, 0, [7, 7, 60, 2]);
-        put_word(&mut memory, MAP + 28, word);
+        put_word(&mut memory, MAP + 28, found);
         let found = Arena::new(&mut memory).unwrap().open(&mut [0; 64]).unwrap();
         assert_eq!((found.mended, found.handle.lane[0].block), (mended, 7));
-        assert_eq!(model::word(&memory, MAP + 28), 0xC000_003C);
+        assert_eq!(word(&memory, MAP + 28), 0xC000_003C);
     }
     let mut memory = fresh();
     half(&mut memory, 0, [7, 7, 60, 2]);
@@ -218,25 +220,25 @@ fn only_the_address_is_judged_before() {
 }
 
 #[test]
-fn a_volume_is_a_row_of_sectors() {
+fn an_open_arena_is_a_row_of_sectors() {
     let mut memory = fresh();
-    let mut volume = Volume::open(Arena::new(&mut memory).unwrap()).unwrap();
-    assert_eq!((volume.sector_size(), volume.sectors(), volume.mended()), (512, 60, 0));
+    let mut opened = OpenArena::open(Arena::new(&mut memory).unwrap()).unwrap();
+    assert_eq!((opened.sector_size(), opened.sectors(), opened.mended()), (512, 60, 0));
     for sector in 0..60 {
-        volume.write_sector(sector, &[sector as u8; 512]).unwrap();
+        opened.write_sector(sector, &[sector as u8; 512]).unwrap();
     }
     let cut =
-        volume.write_sector_by_steps(9, &[99; 512], |store| if store.number == 132 { Err(Answer::BadSector) } else { Ok(()) });
+        opened.write_sector_by_steps(9, &[99; 512], |store| if store.number == 132 { Err(Answer::BadSector) } else { Ok(()) });
     assert_eq!(cut, Err(Answer::BadSector));
-    assert_eq!(volume.write_sector(9, &[98; 512]), Err(Answer::SectorBusy), "the lane is left busy");
-    assert_eq!(volume.write_sector_by_steps(10, &[98; 511], |_| Ok::<(), Answer>(())), Err(Answer::WrongBuffer));
-    assert_eq!(volume.handle().idle_lane(), Some(1), "a refused write leaves no lane busy");
-    let (arena, _) = volume.into_parts();
-    let volume = Volume::open(arena).unwrap();
-    assert_eq!(volume.mended(), 1);
+    assert_eq!(opened.write_sector(9, &[98; 512]), Err(Answer::SectorBusy), "the lane is left busy");
+    assert_eq!(opened.write_sector_by_steps(10, &[98; 511], |_| Ok::<(), Answer>(())), Err(Answer::WrongBuffer));
+    assert_eq!(opened.handle().idle_lane(), Some(1), "a refused write leaves no lane busy");
+    let (arena, _) = opened.into_parts();
+    let opened = OpenArena::open(arena).unwrap();
+    assert_eq!(opened.mended(), 1);
     let mut buffer = [0; 512];
     for sector in 0..60 {
-        volume.read_sector(sector, &mut buffer).unwrap();
+        opened.read_sector(sector, &mut buffer).unwrap();
         assert_eq!(buffer, [if sector == 9 { 99 } else { sector as u8 }; 512]);
     }
 }

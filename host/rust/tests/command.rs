@@ -1,10 +1,13 @@
 //! The command btt.
-mod model;
+mod support;
 
-use model::chance::Chance;
-use model::place::Place;
-use model::{arenas, calls, judge, put_word, seal};
+use btt::{Geometry, Identifiers, MAX_BLOCKS};
+use plain::{put_word, seal};
 use std::fs;
+use std::os::unix::fs::symlink;
+use support::chance::Chance;
+use support::place::Place;
+use support::{arenas, made, number, GEOMETRY};
 
 const MAKE: &str = "make arena --size 512 --sectors 60 --lanes 4";
 
@@ -13,20 +16,122 @@ const REPORT: &str = include_str!("../../../crates/report/stdout");
 const FRESH: &[u8] = include_bytes!("../../../crates/report/stdin");
 
 #[test]
-fn a_made_file_is_the_arena_of_the_model() {
+fn a_made_file_is_the_arena_of_the_plain_program() {
     let place = Place::new("made");
     place.done(MAKE, &[]);
-    let mut expected = vec![0; 49_152];
-    assert_eq!(calls::make(&mut expected, 512, 60, 4, &[0; 16], &[0; 16]), 0);
-    assert!(fs::read(place.path("arena")).unwrap() == expected);
+    assert!(fs::read(place.path("arena")).unwrap() == made(GEOMETRY)[..]);
     let own: Vec<u8> = (0..16).map(|i| i * 17).collect();
     place.done("make other --size=4096 --sectors=9 --lanes=2 --id 00112233445566778899aabbccddeeff --parent FF-00ffffffffffffffffffffffffffff", &[]);
     let mut parent = [0xFF; 16];
     parent[1] = 0;
-    let mut expected = vec![0; model::made_figures(4096, 9, 2).copy as usize + 4096];
-    assert_eq!(calls::make(&mut expected, 4096, 9, 2, &own, &parent), 0);
+    let geometry = Geometry { size: 4096, sectors: 9, lanes: 2 };
+    let mut expected = vec![0; plain::made_figures(geometry).length as usize];
+    plain::make(&mut expected, geometry, Identifiers { own: &own, parent: &parent }).unwrap();
     assert!(fs::read(place.path("other")).unwrap() == expected);
     assert_eq!(place.names(), ["arena", "other"], "nothing is left beside");
+}
+
+#[test]
+fn the_most_sectors_that_fit_are_made() {
+    let place = Place::new("fitting");
+    for (options, size, sectors, lanes, length) in [
+        ("--bytes 16M", 512, 32_484, 4, 16_777_216),
+        ("--bytes 16M --size 4096", 4096, 4085, 4, 16_777_216),
+        ("--bytes 16M --lanes 16", 512, 32_472, 16, 16_777_216),
+        ("--bytes 48K", 512, 60, 4, 49_152),
+        ("--bytes 53247", 512, 60, 4, 49_152),
+        ("--bytes 20K", 512, 4, 4, 20_480),
+        ("--bytes 20480 --lanes 1", 512, 7, 1, 20_480),
+        ("--bytes 24K --size 4096 --lanes 1", 4096, 1, 1, 24_576),
+        ("--sectors 60", 512, 60, 4, 49_152),
+    ] {
+        let said = place.done(&format!("make arena --force {options}"), &[]);
+        let expected = format!("made arena: {sectors} sectors of {size} bytes, {lanes} lanes, {length} bytes in all\n");
+        assert_eq!(String::from_utf8(said).unwrap(), expected, "{options}");
+        assert!(fs::read(place.path("arena")).unwrap() == made(Geometry { size, sectors, lanes })[..]);
+    }
+    for (options, said) in [
+        ("--bytes 0", "refused 1: no arena of 4 lanes and sectors of 512 bytes is made for 0 bytes, but for 20480 to 16777216"),
+        (
+            "--bytes 40K --size 4096",
+            "refused 1: no arena of 4 lanes and sectors of 4096 bytes is made for 40960 bytes, but for 49152",
+        ),
+        ("--bytes 16777217", "refused 1: no arena of 4 lanes and sectors of 512 bytes is made for 16777217 bytes"),
+        ("--bytes 16M --size 1024", "refused 3: "),
+        ("--bytes 16M --size 0", "refused 3: "),
+        ("--bytes 16M --lanes 0", "refused 3: "),
+        ("--bytes 1K --lanes 17", "refused 3: "),
+    ] {
+        let (status, out, found) = place.refused(&format!("make other {options}"), &[]);
+        assert_eq!((status, out.as_str()), (1, ""), "{options}");
+        assert!(found.starts_with(&format!("btt: {said}")), "{found}");
+    }
+    assert_eq!(place.names(), ["arena"]);
+}
+
+#[test]
+fn of_several_makings_one_is_done() {
+    let place = Place::new("several");
+    let line = |id: u32| format!("make arena --bytes 16M --id {id:032x}");
+    let children: Vec<_> = (0..4).map(|id| place.begin(&line(id), &[])).collect();
+    let ends: Vec<_> = children.into_iter().map(|child| child.wait_with_output().unwrap().status.code()).collect();
+    let done: Vec<usize> = (0..4).filter(|id| ends[*id] == Some(0)).collect();
+    assert_eq!(done.len(), 1, "{ends:?}");
+    assert_eq!(usize::from(fs::read(place.path("arena")).unwrap()[31]), done[0]);
+    assert_eq!(place.names(), ["arena"]);
+}
+
+#[test]
+fn only_a_regular_file_is_replaced() {
+    let place = Place::new("regular");
+    place.done(MAKE, &[]);
+    symlink("arena", place.path("link")).unwrap();
+    symlink("nowhere", place.path("dangling")).unwrap();
+    fs::create_dir(place.path("folder")).unwrap();
+    for name in ["link", "dangling", "folder"] {
+        let line = format!("make {name} --bytes 20K");
+        assert_eq!(place.refused(&line, &[]), (3, String::new(), format!("btt: {name} is there already\n")));
+        let (status, _, said) = place.refused(&format!("{line} --force"), &[]);
+        assert_eq!((status, said), (3, format!("btt: {name} is not a regular file, and nothing else is replaced\n")));
+    }
+    assert!(fs::read(place.path("arena")).unwrap() == made(GEOMETRY)[..]);
+    assert_eq!(fs::read_link(place.path("link")).unwrap().to_str(), Some("arena"));
+    assert_eq!(fs::read_link(place.path("dangling")).unwrap().to_str(), Some("nowhere"));
+    assert_eq!(place.names(), ["arena", "dangling", "folder", "link"]);
+    place.done("write link 5", &[5; 512]);
+    assert!(place.done("read arena 5", &[]) == [5; 512], "a link is followed in reading and writing");
+}
+
+#[test]
+fn long_and_odd_names_are_taken() {
+    let place = Place::new("names");
+    let longest = "n".repeat(255);
+    for name in [longest.as_str(), "-dash", "--help", "--"] {
+        place.done(&format!("make --bytes 48K -- {name}"), &[]);
+        place.done(&format!("write -- {name} 5"), &[7; 512]);
+        assert!(place.done(&format!("read -- {name} 5"), &[]) == [7; 512]);
+    }
+    assert_eq!(place.names(), ["--", "--help", "-dash", longest.as_str()]);
+}
+
+#[test]
+fn output_that_cannot_be_written_is_told() {
+    let place = Place::new("output");
+    place.done(MAKE, &[]);
+    for line in ["read arena 0", "report arena", "dump arena", "--help", "--version"] {
+        assert_eq!(place.redirected(line, ">&-"), (3, "btt: standard output is closed\n".into()), "{line}");
+        for to in ["> /dev/full", "1< /dev/null"] {
+            let (status, said) = place.redirected(line, to);
+            assert!(status == 3 && said.starts_with("btt: standard output: "), "{line} {to}: {said}");
+        }
+        assert_eq!(place.redirected(line, "> /dev/null"), (0, String::new()), "{line}");
+        assert_eq!(place.redirected(line, "1<> /dev/null"), (0, String::new()), "{line}");
+    }
+    assert_eq!(place.redirected("make other --bytes 20K", ">&-").0, 3);
+    assert_eq!(place.names(), ["arena"], "nothing is made where it could not be told");
+    let (status, said) = place.redirected("make other --bytes 20K", "> /dev/full");
+    assert!(status == 3 && said.starts_with("btt: other is made, but standard output: "), "{said}");
+    assert_eq!(place.names(), ["arena", "other"]);
 }
 
 #[test]
@@ -83,17 +188,17 @@ fn a_report_is_that_of_the_program() {
     assert!(answers.iter().filter(|count| **count > 0).count() > 4);
 }
 
-/// The model's report.
+/// The report by the plain program.
 fn report(arena: &[u8]) -> (u32, String) {
-    let pending = judge(arena, 40_000).pending.len();
-    let (number, _, handle) = calls::open(&mut arena.to_vec(), &mut vec![0; 40_000]);
-    if number != 0 {
+    let opened = plain::open(&mut arena.to_vec(), &mut [0; MAX_BLOCKS]);
+    let number = number(&opened);
+    let Ok(opened) = opened else {
         return (number, format!("refused {number}\n"));
-    }
-    let f = calls::figures(&handle);
-    let mut text = format!("sector bytes {}\nsectors {}\nlanes {}\nmended {pending}\n", f.size, f.sectors, f.lanes);
-    for lane in 0..f.lanes as usize {
-        let record = calls::record(&handle, lane);
+    };
+    let handle = opened.handle;
+    let mut text =
+        format!("sector bytes {}\nsectors {}\nlanes {}\nmended {}\n", handle.size, handle.sectors, handle.lanes, opened.mended);
+    for (lane, record) in handle.lane[..handle.lanes as usize].iter().enumerate() {
         text += &format!("lane {lane} free {} next {}\n", record.block, record.sequence);
     }
     (0, text + "opened\n")
@@ -104,16 +209,16 @@ fn sectors_are_read_and_written() {
     let place = Place::new("sectors");
     for (size, sectors) in [(512, 60), (4096, 7)] {
         place.done(&format!("make arena --size {size} --sectors {sectors} --lanes 4 --force"), &[]);
-        let mut model = fs::read(place.path("arena")).unwrap();
+        let mut expected = fs::read(place.path("arena")).unwrap();
         let mut chance = Chance::new(42);
         for _ in 0..12 {
             let sector = chance.below(sectors) as u32;
             let bytes = chance.bytes(size);
             assert!(place.done(&format!("write arena {sector}"), &bytes).is_empty());
             assert!(place.done(&format!("read arena {sector}"), &[]) == bytes);
-            let (_, _, mut handle) = calls::open(&mut model, &mut [0; 128]);
-            assert_eq!(calls::write(&mut model, &mut handle, 0, sector, &bytes), 0);
-            assert!(fs::read(place.path("arena")).unwrap() == model, "the file has the stores of a write on lane 0");
+            let mut handle = plain::open(&mut expected, &mut [0; 128]).unwrap().handle;
+            plain::write(&mut expected, &mut handle, 0, sector, &bytes).unwrap();
+            assert!(fs::read(place.path("arena")).unwrap() == expected, "the file has the stores of a write on lane 0");
         }
     }
 }
@@ -160,22 +265,21 @@ fn refused_reads_and_writes_change_nothing() {
 #[test]
 fn a_pending_lane_is_mended_in_the_file_only_by_a_write() {
     let place = Place::new("pending");
-    let mut arena = vec![0; 49_152];
-    assert_eq!(calls::make(&mut arena, 512, 60, 4, &[0; 16], &[0; 16]), 0);
-    let (_, _, mut handle) = calls::open(&mut arena, &mut [0; 64]);
+    let mut arena = made(GEOMETRY);
+    let mut handle = plain::open(&mut arena, &mut [0; 64]).unwrap().handle;
     for (lane, sector) in [(2, 11), (3, 12)] {
-        assert_eq!(calls::start(&arena, &mut handle, lane, sector), 0);
-        (0..132).for_each(|_| assert_eq!(calls::step(&mut arena, &mut handle, lane, &[lane as u8; 512]), 0));
+        plain::start(&arena, &mut handle, lane, sector).unwrap();
+        (0..132).for_each(|_| plain::step(&mut arena, &mut handle, lane, &[lane as u8; 512]).unwrap());
     }
-    fs::write(place.path("arena"), &arena).unwrap();
+    fs::write(place.path("arena"), &arena[..]).unwrap();
     assert!(place.done("read arena 11", &[]) == [2; 512]);
     assert!(String::from_utf8(place.done("report arena", &[])).unwrap().contains("\nmended 2\n"));
     assert!(String::from_utf8(place.done("dump arena", &[])).unwrap().contains("\nmended 2\n"));
-    assert!(fs::read(place.path("arena")).unwrap() == arena);
+    assert!(fs::read(place.path("arena")).unwrap() == arena[..]);
     place.done("write arena 12", &[9; 512]);
-    let (_, _, mut handle) = calls::open(&mut arena, &mut [0; 64]);
-    assert_eq!(calls::write(&mut arena, &mut handle, 0, 12, &[9; 512]), 0);
-    assert!(fs::read(place.path("arena")).unwrap() == arena);
+    let mut handle = plain::open(&mut arena, &mut [0; 64]).unwrap().handle;
+    plain::write(&mut arena, &mut handle, 0, 12, &[9; 512]).unwrap();
+    assert!(fs::read(place.path("arena")).unwrap() == arena[..]);
 }
 
 #[test]
@@ -207,9 +311,11 @@ fn a_dump_tells_everything() {
 #[test]
 fn help_and_usage() {
     let place = Place::new("help");
-    assert!(String::from_utf8(place.done("--help", &[])).unwrap().contains("btt make FILE --size S --sectors E --lanes N"));
+    assert!(String::from_utf8(place.done("--help", &[])).unwrap().contains("btt make FILE --bytes B"));
     assert_eq!(place.done("--version", &[]), format!("btt {}\n", env!("CARGO_PKG_VERSION")).as_bytes());
-    for line in ["", "frob", "read arena", "read arena seven", "make arena --size 512", "report arena --size 512"] {
+    for line in
+        ["", "frob", "read arena", "read arena seven", "read arena +5", "make arena --size 512", "report arena --size 512"]
+    {
         let (status, out, said) = place.refused(line, &[]);
         assert_eq!((status, out.as_str()), (2, ""), "{line}");
         assert!(said.starts_with("btt: ") && said.contains("--help"));

@@ -1,16 +1,17 @@
-//! The library against the model on many arenas, long and short, valid and damaged.
-mod model;
+//! The library against the plain program on many arenas, long and short, valid and damaged.
+mod support;
 
 use btt::Geometry;
-use model::both::Both;
-use model::chance::Chance;
-use model::{arenas, counting, figures_of};
+use support::both::Both;
+use support::chance::Chance;
+use support::{arenas, pending};
 
 /// Opens an arena, by openings that are cut at every place too, and reads and writes it if it opens. Gives opening's answer.
 fn tried(chance: &mut Chance, arena: &[u8]) -> u32 {
     let both = Both::new(arena);
     both.info_block();
-    let blocks = counting(arena).map_or(0, |at| figures_of(&arena[at..at + 4096]).blocks.min(40_000) as usize);
+    let figures = plain::info_block(arena).map(|at| plain::figures_of(&arena[at..at + 4096], arena.len()));
+    let blocks = figures.map_or(0, |figures| figures.blocks.min(40_000) as usize);
     let room = match chance.below(12) {
         0 => blocks.saturating_sub(1),
         1 => 0,
@@ -61,7 +62,7 @@ fn valid_arenas_open() {
         let arena = arenas::valid(&mut chance);
         let number = tried(&mut chance, &arena);
         assert!(number == 0 || number == 5);
-        mended += model::judge(&arena, 100_000).pending.len();
+        mended += pending(&arena).unwrap();
     }
     assert!(mended > 1000, "lanes were pending: {mended}");
 }
@@ -85,7 +86,7 @@ fn random_bytes_are_answered_alike() {
     for length in lengths {
         for _ in 0..20 {
             let arena = chance.bytes(length);
-            assert_eq!(tried(&mut chance, &arena), if model::length_allowed(length) { 2 } else { 1 });
+            assert_eq!(tried(&mut chance, &arena), if plain::length_allowed(length) { 2 } else { 1 });
         }
     }
 }
@@ -132,8 +133,7 @@ fn making_is_answered_alike() {
         let mut both = Both::new(&chance.bytes(length));
         let number = both.make(geometry, &own, &parent);
         answers[number as usize] += 1;
-        let expected = model::made_figures(size.into(), sectors.into(), lanes.into()).copy + 4096;
-        assert!(geometry.made_length().is_none_or(|length| u128::from(length) == expected));
+        assert!(geometry.made_length().is_none_or(|length| length == plain::made_figures(geometry).length));
         assert!(number != 0 || both.open(&[9; 128]) == 0);
     }
     assert!([0, 1, 3, 10].into_iter().all(|number| answers[number] > 20), "{answers:?}");

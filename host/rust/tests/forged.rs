@@ -1,10 +1,11 @@
 //! Forged handles: every call answers as the rules say, and leaves what it must.
-mod model;
+mod support;
 
-use btt::{Geometry, Handle};
-use model::both::Both;
-use model::chance::Chance;
-use model::{arenas, calls, put_word, word, HandleBytes};
+use btt::{Geometry, Handle, HANDLE_SIZE, LANE_SIZE, MAX_LANES};
+use plain::{put_word, word};
+use support::arenas;
+use support::both::Both;
+use support::chance::Chance;
 
 /// An opened arena with some writes in flight.
 fn opened(chance: &mut Chance, geometry: Geometry) -> Both {
@@ -21,7 +22,14 @@ fn opened(chance: &mut Chance, geometry: Geometry) -> Both {
     both
 }
 
-fn forged(both: &Both, change: impl FnOnce(&mut HandleBytes)) -> Both {
+fn forged(both: &Both, change: impl FnOnce(&mut Handle)) -> Both {
+    let mut forged = both.clone();
+    change(&mut forged.handle);
+    forged
+}
+
+/// The same by the bytes of the handle.
+fn forged_bytes(both: &Both, change: impl FnOnce(&mut [u8; HANDLE_SIZE])) -> Both {
     let mut bytes = both.handle.to_bytes();
     change(&mut bytes);
     Both { handle: Handle::from_bytes(&bytes), ..both.clone() }
@@ -62,7 +70,7 @@ fn every_word_of_a_handle_is_judged() {
             for value in telling(&both.handle, found) {
                 let lane = chance.below(geometry.lanes as usize + 1) as u32;
                 let sector = chance.below(geometry.sectors as usize + 1) as u32;
-                forged(&both, |bytes| put_word(bytes, 4 * place, value)).every_call(lane, sector, &buffer);
+                forged_bytes(&both, |bytes| put_word(bytes, 4 * place, value)).every_call(lane, sector, &buffer);
             }
         }
     }
@@ -77,9 +85,10 @@ fn several_words_are_judged_together() {
         let geometry = Geometry { size: 512, sectors: lanes + chance.below(9) as u32, lanes };
         let both = opened(&mut chance, geometry);
         for _ in 0..300 {
-            let forged = forged(&both, |bytes| {
+            let forged = forged_bytes(&both, |bytes| {
                 for _ in 0..1 + chance.below(3) {
-                    let place = if chance.once_in(2) { chance.below(128) } else { 16 + chance.below(7 * lanes as usize) };
+                    let past = if chance.once_in(2) { 0 } else { MAX_LANES - lanes as usize };
+                    let place = chance.below((HANDLE_SIZE - LANE_SIZE * past) / 4);
                     let choice = telling(&both.handle, word(bytes, 4 * place));
                     put_word(bytes, 4 * place, chance.pick(&choice));
                 }
@@ -99,7 +108,7 @@ fn random_bytes_are_no_handle() {
     let mut chance = Chance::new(3);
     let both = opened(&mut chance, Geometry { size: 512, sectors: 6, lanes: 3 });
     for _ in 0..2000 {
-        let forged = forged(&both, |bytes| chance.fill(bytes));
+        let forged = forged_bytes(&both, |bytes| chance.fill(bytes));
         assert_eq!(forged.every_call(0, 0, &[0; 512]), [16; 6]);
     }
 }
@@ -110,7 +119,7 @@ fn a_busy_word_is_0_or_1() {
     let both = opened(&mut chance, Geometry { size: 512, sectors: 6, lanes: 3 });
     for lane in 0..16 {
         for busy in [2, 3, 0x100, 0x101, 1 << 31, u32::MAX] {
-            let forged = forged(&both, |bytes| put_word(bytes, 64 + 28 * lane, busy));
+            let forged = forged(&both, |handle| handle.lane[lane].busy = busy);
             let answers = forged.every_call(1, 1, &[0; 512]);
             assert_eq!(answers == [16; 6], lane < 3);
         }
@@ -125,12 +134,12 @@ fn records_past_the_lanes_and_the_reserved_word_are_kept() {
         let geometry = Geometry { size: 512, sectors: 40, lanes };
         for _ in 0..30 {
             let both = opened(&mut chance, geometry);
-            let past = 64 + 28 * lanes as usize;
-            let mut both = forged(&both, |bytes| {
-                chance.fill(&mut bytes[past..]);
-                chance.fill(&mut bytes[60..64]);
+            let past = lanes as usize;
+            let junk = Handle::from_bytes(&chance.bytes(HANDLE_SIZE).try_into().unwrap());
+            let mut both = forged(&both, |handle| {
+                handle.lane[past..].copy_from_slice(&junk.lane[past..]);
+                handle.reserved = junk.reserved;
             });
-            let kept = both.handle.to_bytes();
             both.every_call(0, 3, &buffer);
             for lane in 0..lanes {
                 while both.handle.lane[lane as usize].busy == 1 {
@@ -139,8 +148,7 @@ fn records_past_the_lanes_and_the_reserved_word_are_kept() {
                 assert_eq!(both.write(lane, 20, &buffer), 0);
                 assert_eq!(both.start(lane, lane), 0);
             }
-            let left = both.handle.to_bytes();
-            assert_eq!((&left[past..], &left[60..64]), (&kept[past..], &kept[60..64]));
+            assert_eq!((&both.handle.lane[past..], both.handle.reserved), (&junk.lane[past..], junk.reserved));
         }
     }
 }
@@ -150,18 +158,12 @@ fn handles_of_other_arenas_are_answered() {
     let mut chance = Chance::new(6);
     for _ in 0..400 {
         let [first, second] = [(), ()].map(|()| arenas::valid(&mut chance));
-        let mut both = Both::new(&first);
-        let mut other = second.clone();
-        let (number, _, handle) = calls::open(&mut other, &mut [0; 128]);
-        assert_eq!(number, 0);
-        both.handle = Handle::from_bytes(&handle);
+        let handle = plain::open(&mut second.clone(), &mut [0; 128]).unwrap().handle;
         let length = chance.pick(&[512, 4096]);
-        both.every_call(chance.below(16) as u32, chance.below(40) as u32, &vec![3; length]);
-        // The same with the other's length: its figures go for this arena's bytes.
-        let mut both = Both::new(&first);
-        both.arena = btt::AlignedBytes::from(&[&first[..], &second[..]].concat()[..second.len()]);
-        both.model = both.arena.to_vec();
-        both.handle = Handle::from_bytes(&handle);
-        both.every_call(chance.below(16) as u32, chance.below(40) as u32, &vec![3; length]);
+        // As it is, and with the other's length, so that the handle's figures go for this arena's bytes.
+        for arena in [&first[..], &[&first[..], &second[..]].concat()[..second.len()]] {
+            let both = Both { handle, ..Both::new(arena) };
+            both.every_call(chance.below(16) as u32, chance.below(40) as u32, &vec![3; length]);
+        }
     }
 }

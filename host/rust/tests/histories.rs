@@ -1,9 +1,9 @@
-//! Random histories of calls with power cuts, against the model and against a plain row of sectors.
-mod model;
+//! Random histories of calls with power cuts, against the plain program and against a plain row of sectors.
+mod support;
 
-use model::both::Both;
-use model::chance::Chance;
-use model::{arenas, judge};
+use support::both::Both;
+use support::chance::Chance;
+use support::{arenas, pending};
 
 /// A write in flight: its lane, its sector, its bytes, and how many of its stores are made.
 #[derive(Clone)]
@@ -84,8 +84,7 @@ impl History {
                 self.row[write.sector as usize] = (0, write.bytes);
             }
         }
-        let judged = judge(&self.both.arena, 128);
-        assert_eq!((judged.number, judged.pending.len()), (0, 0), "every block is mapped or free, and none is pending");
+        assert_eq!(pending(&self.both.arena), Ok(0), "every block is mapped or free, and none is pending");
     }
 
     fn check(&self, sector: u32) {
@@ -202,12 +201,12 @@ fn cut_openings_end_as_one_opening() {
         let arena = arenas::valid(&mut chance);
         let mut whole = Both::new(&arena);
         assert_eq!(whole.open(&[0; 128]), 0);
-        let pending = judge(&arena, 128).pending.len() as u32;
-        seen = seen.max(pending);
-        for k in 0..=pending {
+        let found = pending(&arena).unwrap();
+        seen = seen.max(found);
+        for k in 0..=found {
             let mut cut = Both::new(&arena);
             cut.cut_open(&[0; 128], k);
-            assert_eq!(judge(&cut.arena, 128).pending.len() as u32, pending - k);
+            assert_eq!(pending(&cut.arena), Ok(found - k));
             cut.cut_open(&[0; 128], chance.below(3) as u32);
             cut.open(&[0; 128]);
             assert!(cut.arena == whole.arena && cut.handle == whole.handle);

@@ -1,23 +1,23 @@
 //! The command killed in the middle of writing: the sector is old or new, and the file opens.
-mod model;
+mod support;
 
-use model::chance::Chance;
-use model::place::Place;
-use model::{calls, judge};
+use btt::MAX_BLOCKS;
 use std::fs;
 use std::thread::sleep;
 use std::time::{Duration, Instant};
+use support::chance::Chance;
+use support::pending;
+use support::place::Place;
 
 const SECTORS: u32 = 20;
 
 /// What every sector of an arena reads, opened in memory.
 fn row(arena: &[u8]) -> Vec<Vec<u8>> {
     let mut arena = arena.to_vec();
-    let (number, _, handle) = calls::open(&mut arena, &mut [0; 128]);
-    assert_eq!(number, 0, "the file opens");
+    let handle = plain::open(&mut arena, &mut [0; MAX_BLOCKS]).expect("the file opens").handle;
     let read = |sector| {
         let mut buffer = vec![0; 4096];
-        assert_eq!(calls::read(&arena, &handle, sector, &mut buffer), 0);
+        plain::read(&arena, &handle, sector, &mut buffer).unwrap();
         buffer
     };
     (0..SECTORS).map(read).collect()
@@ -33,7 +33,7 @@ fn a_killed_write_leaves_the_old_sector_or_the_new() {
     place.done("write arena 0", &[1; 4096]);
     let whole = began.elapsed().as_micros() as usize;
     let mut expected = row(&fs::read(&file).unwrap());
-    let [mut killed, mut middle, mut pending] = [0; 3];
+    let [mut killed, mut middle, mut lanes] = [0u32; 3];
     for _ in 0..300 {
         let before = fs::read(&file).unwrap();
         let sector = chance.below(SECTORS as usize);
@@ -41,16 +41,16 @@ fn a_killed_write_leaves_the_old_sector_or_the_new() {
         let mut child = place.begin(&format!("write arena {sector}"), &bytes);
         sleep(Duration::from_micros(chance.below(whole + whole / 4) as u64));
         child.kill().unwrap();
-        killed += usize::from(!child.wait().unwrap().success());
+        killed += u32::from(!child.wait().unwrap().success());
         let after = fs::read(&file).unwrap();
         let found = row(&after);
         let is_new = found[sector] == bytes;
         assert!(is_new || found[sector] == expected[sector], "old or new");
         expected[sector] = found[sector].clone();
         assert!(found == expected, "the other sectors are unchanged");
-        middle += usize::from(after != before && !is_new);
-        pending += judge(&after, 128).pending.len();
+        middle += u32::from(after != before && !is_new);
+        lanes += pending(&after).unwrap();
     }
-    println!("{killed} killed, {middle} with stores made and the sector old, {pending} pending lanes found");
+    println!("{killed} killed, {middle} with stores made and the sector old, {lanes} pending lanes found");
     assert!(killed > 0);
 }

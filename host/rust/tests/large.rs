@@ -1,9 +1,9 @@
 //! The longest arena, 16 MiB, with sectors of 4,096 bytes.
-mod model;
+mod support;
 
-use btt::{Answer, Arena, Geometry, Volume, MAX_ARENA};
-use model::both::Both;
-use model::chance::Chance;
+use btt::{Answer, Arena, Geometry, OpenArena, MAX_ARENA};
+use support::both::Both;
+use support::chance::Chance;
 
 const GEOMETRY: Geometry = Geometry { size: 4096, sectors: 4085, lanes: 4 };
 
@@ -44,12 +44,12 @@ fn cut_at_the_sequence_word(chance: &mut Chance, both: &Both) {
         }
         let mut cut = Both::new(arena.bytes());
         assert_eq!(cut.open(&vec![0; 4089]), 0);
-        let volume = Volume::open(arena).unwrap();
-        assert_eq!(volume.mended(), mended);
+        let opened = OpenArena::open(arena).unwrap();
+        assert_eq!(opened.mended(), mended);
         let mut found = vec![0; 4096];
-        assert_eq!(volume.read_sector(4084, &mut found), Ok(()));
+        assert_eq!(opened.read_sector(4084, &mut found), Ok(()));
         assert!(found == if kept < 1028 { &old[..] } else { &new[..] });
-        assert!(volume.arena().bytes() == &cut.arena[..] && *volume.handle() == cut.handle);
+        assert!(opened.arena().bytes() == &cut.arena[..] && *opened.handle() == cut.handle);
     }
 }
 

@@ -1,9 +1,10 @@
 //! The functions as C sees them: null slices, and what a refusal leaves in the places of results.
-mod model;
+mod support;
 
 use btt::sys::*;
 use btt::{AlignedBytes, Handle, Lane};
 use std::ptr::{null, null_mut};
+use support::{made, GEOMETRY};
 
 /// Bytes of a handle that is not zeroes and not allowed.
 fn junk() -> Handle {
@@ -45,8 +46,7 @@ fn null_slices_are_empty_slices() {
 
 #[test]
 fn a_refused_opening_gives_zeroes_and_no_count() {
-    let mut arena = AlignedBytes::zeroed(49_152);
-    assert_eq!(model::calls::make(&mut arena, 512, 60, 4, &[0; 16], &[0; 16]), 0);
+    let arena = made(GEOMETRY);
     let mut changes = vec![];
     changes.push((2, vec![(0, 0), (45_056, 0)], 64));
     changes.push((5, vec![], 63));
@@ -71,11 +71,8 @@ fn a_refused_opening_gives_zeroes_and_no_count() {
 
 #[test]
 fn a_refused_look_leaves_the_result() {
-    let mut arena = AlignedBytes::zeroed(49_152);
-    assert_eq!(model::calls::make(&mut arena, 512, 60, 4, &[0; 16], &[0; 16]), 0);
-    let (number, _, handle) = model::calls::open(&mut arena, &mut [0; 64]);
-    assert_eq!(number, 0);
-    let good = Handle::from_bytes(&handle);
+    let mut arena = made(GEOMETRY);
+    let good = plain::open(&mut arena, &mut [0; 64]).unwrap().handle;
     let seven = Lane { busy: 7, block: 7, half: 7, sequence: 7, sector: 7, old: 7, made: 7 };
     for (handle, lane, answers) in [(good, 4, (11, 11)), (good, 0, (0, 14)), (junk(), 0, (16, 16))] {
         let (mut record, mut offset) = (seven, 77);

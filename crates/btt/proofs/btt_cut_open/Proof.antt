@@ -1,4 +1,4 @@
--- `btt_cut_open` meets its contract: number and count, and arena and work buffer as the cut opening leaves them.
+-- `btt::btt_cut_open` meets its contract: number and count, and arena and work buffer as the cut opening leaves them.
 use borrow.Author.Needs.{needs}
 use Rattle.btt.proofs.btt_cut_open.Statement.{statement}
 use Rattle.btt.proofs.btt_cut_open.Tie as tie

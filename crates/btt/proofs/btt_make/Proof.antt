@@ -1,4 +1,4 @@
--- `btt_make` meets its contract: the answer's number, and the arena as making leaves it.
+-- `btt::btt_make` meets its contract: the answer's number, and the arena as making leaves it.
 use borrow.Author.Needs.{needs}
 use Rattle.btt.proofs.btt_make.Statement.{statement}
 use Rattle.btt.proofs.btt_make.Tie as tie

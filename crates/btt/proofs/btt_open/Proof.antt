@@ -1,4 +1,4 @@
--- `btt_open` meets its contract: the handle's bytes are zeroes, and on an accepted opening the handle's words are stored over them.
+-- `btt::btt_open` meets its contract: the handle's bytes are zeroes, and on an accepted opening the handle's words are stored over them.
 use mathlib.Core.Path.{refl}
 use Rattle.btt.proofs.Rules.{passes, fails}
 use Rattle.btt.proofs.Laws.{open-refused, open-done}
@@ -24,7 +24,8 @@ same-length-2 c = search needs
 returns : tie.Need-returns
 returns c =
     let o = c .before .before .before .before .before .before .before .before .«open» in
-    open-refused _ _ (o .result) _ _ (o .ensures) _ (c .number .ensures) (fails (c .before .before .is-done .ensures) (c .before .if1 .taken)) _ refl
+    let t = fails (c .before .before .is-done .ensures) (c .before .if1 .taken) in
+    open-refused _ _ (o .result) _ _ (o .ensures) _ (c .number .ensures) t _ refl
 
 put-handle-requires : tie.Need-put-handle-requires
 put-handle-requires c κs = search needs

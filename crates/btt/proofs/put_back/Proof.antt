@@ -1,6 +1,7 @@
--- `put_back` meets its contract: the record is stored just where the answer's number is 0.
+-- `btt::put_back` meets its contract: the record is stored just where the answer's number is 0, and is the lane's in the array.
 use native.Mathlib.Omega.{arith}
 use borrow.Author.Tests.{eqb-true}
+use Rattle.machine.proofs.calls.Rule16.{lane-taken}
 use Rattle.btt.proofs.Rules.{passes, fails}
 use borrow.Author.Needs.{needs}
 use Rattle.btt.proofs.put_back.Statement.{statement}
@@ -21,7 +22,8 @@ mul-r c = search needs
 element-copy-out-r : tie.Need-element-copy-out-r
 element-copy-out-r c =
     let i = c .before in
-    i .before .before .pre (eqb-true _ _ (passes (i .before .is-done .ensures) (i .if1 .left)))
+    let u = i .before .before .pre (eqb-true _ _ (passes (i .before .is-done .ensures) (i .if1 .left))) in
+    omega (arith, u .0, u .1)
 
 mul-put-record : tie.Need-mul-put-record
 mul-put-record c = search needs
@@ -33,7 +35,7 @@ put-record-requires : tie.Need-put-record-requires
 put-record-requires c κs =
     let i = c .before .before .before in
     let u = i .before .before .pre (eqb-true _ _ (passes (i .before .is-done .ensures) (i .if1 .left))) in
-    omega arith
+    omega (arith, u .0, u .1)
 
 number-requires-2 : tie.Need-number-requires-2
 number-requires-2 c κs = search needs
@@ -41,7 +43,11 @@ number-requires-2 c κs = search needs
 returns-2 : tie.Need-returns-2
 returns-2 c =
     let i = c .before .before .before .before .before in
-    (c .number2 .ensures, rw (c .before .put-record .ensures, passes (i .before .is-done .ensures) (i .if1 .left)))
+    let s = i .before .before in
+    let t = passes (i .before .is-done .ensures) (i .if1 .left) in
+    let h = s .args .stepped .handle in
+    let r = lane-taken (h .lanes) (h .figures .lanes) (s .args .lane) (s .pre (eqb-true _ _ t) .0) in
+    (c .number2 .ensures, rw (c .before .put-record .ensures, t, r))
 
 pub put-back-spec : {M : Type 1} → statement M
 put-back-spec =

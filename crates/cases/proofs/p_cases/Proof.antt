@@ -1,140 +1,36 @@
--- Every row is computed.
+-- `cases::p_cases` meets its contract: the values of cases 1 to 5 are computed, and cases 6 to 8 are proved in `Pending`.
 use mathlib.Core.Path.{refl}
-use Rattle.words.specs.Word.{word, putWord, putWords}
+use mathlib.Core.List.{List, [], _∷_, _++_}
+use native.Mathlib.Omega.{arith}
 use Rattle.fletcher.specs.Fletcher.{added, addedAll, fletcher64}
 use Rattle.format.specs.Sequence.{successor, newer}
 use Rattle.format.specs.MapWord.{blockOf}
-use Rattle.layout.specs.Figures.{madeFigures, madeLength}
-use Rattle.machine.specs.Stores.{putAll}
-use Rattle.machine.specs.Flog.{newerHalf, pending}
-use Rattle.machine.specs.Opening.{mends, pendingLanes}
-use Rattle.cases.specs.Table.{AllDue, table}
+use Rattle.layout.specs.Figures.{freshFigures, freshLength}
+use Rattle.cases.specs.Worked.{Worked, AllDue}
+use Rattle.cases.specs.Pending.{case6, case7, case8}
+use Rattle.cases.specs.Table.{case1, case2, case3, case4, case5, table}
+use Rattle.cases.proofs.Pending.{cases-6-and-7, case-8}
 use Rattle.cases.proofs.p_cases.Statement.{statement}
 use Rattle.cases.proofs.p_cases.Tie as tie
 
+append : (xs : List Worked) (ys : List Worked) → AllDue xs → AllDue ys → AllDue (xs ++ ys)
+append [] ys p q = q
+append (x ∷ xs) ys p q = (p .0, append xs ys (p .1) q)
+
+-- cases 1 to 5 are computed
+computed : AllDue (case1 ++ (case2 ++ (case3 ++ (case4 ++ case5))))
+unfolding added addedAll fletcher64 successor newer blockOf freshFigures freshLength
+computed = (refl, (refl, (refl, (refl, (refl, (refl, (refl, (refl, (refl, (refl, (refl, (refl, (refl, (refl, (refl, (refl, (refl, (refl, (refl, (refl, (refl, (refl, (refl, (refl, (refl, (refl, (refl, (refl, (refl, tt)))))))))))))))))))))))))))))
+
 all-due : AllDue table
-unfolding table word putWord putWords added addedAll fletcher64 successor newer blockOf madeFigures madeLength putAll newerHalf pending mends pendingLanes
-all-due = (
-  refl,
-  (
-    refl,
-    (
-      refl,
-      (
-        refl,
-        (
-          refl,
-          (
-            refl,
-            (
-              refl,
-              (
-                refl,
-                (
-                  refl,
-                  (
-                    refl,
-                    (
-                      refl,
-                      (
-                        refl,
-                        (
-                          refl,
-                          (
-                            refl,
-                            (
-                              refl,
-                              (
-                                refl,
-                                (
-                                  refl,
-                                  (
-                                    refl,
-                                    (
-                                      refl,
-                                      (
-                                        refl,
-                                        (
-                                          refl,
-                                          (
-                                            refl,
-                                            (
-                                              refl,
-                                              (
-                                                refl,
-                                                (
-                                                  refl,
-                                                  (
-                                                    refl,
-                                                    (
-                                                      refl,
-                                                      (
-                                                        refl,
-                                                        (
-                                                          refl,
-                                                          (
-                                                            refl,
-                                                            (
-                                                              refl,
-                                                              (
-                                                                refl,
-                                                                (
-                                                                  refl,
-                                                                  (
-                                                                    refl,
-                                                                    (
-                                                                      refl,
-                                                                      (
-                                                                        refl,
-                                                                        (
-                                                                          refl,
-                                                                          (
-                                                                            refl,
-                                                                            (
-                                                                              refl,
-                                                                              (
-                                                                                refl,
-                                                                                (refl, (refl, (refl, (refl, (refl, tt))))),
-                                                                              ),
-                                                                            ),
-                                                                          ),
-                                                                        ),
-                                                                      ),
-                                                                    ),
-                                                                  ),
-                                                                ),
-                                                              ),
-                                                            ),
-                                                          ),
-                                                        ),
-                                                      ),
-                                                    ),
-                                                  ),
-                                                ),
-                                              ),
-                                            ),
-                                          ),
-                                        ),
-                                      ),
-                                    ),
-                                  ),
-                                ),
-                              ),
-                            ),
-                          ),
-                        ),
-                      ),
-                    ),
-                  ),
-                ),
-              ),
-            ),
-          ),
-        ),
-      ),
-    ),
-  ),
-)
+unfolding table newer successor
+all-due =
+    let p = cases-6-and-7 1 (omega arith) refl in
+    let q = cases-6-and-7 0 (omega arith) refl in
+    append (case1 ++ (case2 ++ (case3 ++ (case4 ++ case5)))) (case6 1 ++ (case6 0 ++ (case7 1 ++ (case7 0 ++ case8)))) computed
+    (append (case6 1) (case6 0 ++ (case7 1 ++ (case7 0 ++ case8))) (p .0)
+    (append (case6 0) (case7 1 ++ (case7 0 ++ case8)) (q .0)
+    (append (case7 1) (case7 0 ++ case8) (p .1) (append (case7 0) case8 (q .1) case-8))))
 
 returns : tie.Need-returns
 returns c = all-due

@@ -1,4 +1,5 @@
--- `handle_in` meets its contract. The loop's invariant: the records are those decoded so far, and zeroes. The measure is what is left of the 16.
+-- `handlebytes::handle_in` meets its contract. The loop's invariant: the records are those decoded so far, and zeroes.
+-- The measure is what is left of the 16.
 use mathlib.Core.Path.{_≡_}
 use Prim.Native.Nat.{_-_, _≤_, _<_}
 use native.Mathlib.Omega.{arith}
@@ -47,8 +48,8 @@ loop-again c =
     let u : x .loop .l < 16 = omega arith in
     (search needs, rw (x .loop .inv .1, c .record-in .ensures) (partly-more (x .before .before .args .b .now) (x .loop .l) u))
 
-figures-in-requires : tie.Need-figures-in-requires Inv-loop μ-loop
-figures-in-requires c κs = search needs
+figures-at-requires : tie.Need-figures-at-requires Inv-loop μ-loop
+figures-at-requires c κs = search needs
 
 long-at-requires : tie.Need-long-at-requires Inv-loop μ-loop
 long-at-requires c κs = search needs
@@ -57,9 +58,9 @@ returns : tie.Need-returns Inv-loop μ-loop
 unfolding decodeHandle
 returns c =
     let f = c .before .before in
-    let x = f .before .before .loop in
+    let x = f .before .before .before .loop in
     let e : x .l ≡ 16 = omega arith in
-    rw (x .inv .1, e, f .figures-in .ensures, c .long-at .ensures, partly-all)
+    rw (x .inv .1, e, f .figures-at .ensures, c .long-at .ensures, partly-all)
 
 pub handle-in-spec : {M : Type 1} → statement M
 handle-in-spec =
@@ -77,6 +78,6 @@ handle-in-spec =
     add-l
     loop-less
     loop-again
-    figures-in-requires
+    figures-at-requires
     long-at-requires
     returns)

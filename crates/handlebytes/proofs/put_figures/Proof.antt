@@ -1,4 +1,4 @@
--- `put_figures` meets its contract: the stores are those of the run of words.
+-- `handlebytes::put_figures` meets its contract: the stores are those of the run of words.
 use Rattle.words.specs.Word.{putWords}
 use Rattle.handlebytes.specs.Bytes.{figureWords}
 use borrow.Author.Needs.{needs}

@@ -1,10 +1,11 @@
--- `put_handle` meets its contract. The loop's invariant: the records passed are stored, and there are 16. The measure is what is left of them.
+-- `handlebytes::put_handle` meets its contract. The loop's invariant: the records passed are stored, and there are 16.
+-- The measure is what is left of them.
 use mathlib.Core.Path.{_≡_}
 use Prim.Native.Nat.{_-_, _≤_}
 use native.Mathlib.Omega.{arith}
 use lib.ListN.{length}
 use Rattle.words.specs.Word.{putWords}
-use Rattle.machine.proofs.Rule16.{unmapped}
+use Rattle.machine.proofs.calls.Rule16.{unmapped}
 use Rattle.handlebytes.specs.Bytes.{recordsWords, handleWords}
 use Rattle.handlebytes.proofs.Records.{stored-none, stored-more, three-runs}
 use borrow.Author.Needs.{needs}

@@ -1,12 +1,9 @@
--- `put_record` meets its contract: seven words one after the other.
+-- `handlebytes::put_record` meets its contract: seven words one after the other.
 use Rattle.handlebytes.specs.Bytes.{recordWords}
 use Rattle.handlebytes.proofs.Records.{seven}
 use borrow.Author.Needs.{needs}
 use Rattle.handlebytes.proofs.put_record.Statement.{statement}
 use Rattle.handlebytes.proofs.put_record.Tie as tie
-
-flag-requires : tie.Need-flag-requires
-flag-requires c κs = search needs
 
 put-word-requires : tie.Need-put-word-requires
 put-word-requires c κs = search needs
@@ -63,7 +60,6 @@ returns c =
       x .before .before .before .before .before .before .before .before .put-word3 .ensures,
       y .put-word2 .ensures,
       y .before .before .before .before .put-word .ensures,
-      y .before .before .before .before .before .flag .ensures,
     )
     (seven _ _ _ _ _ _ _ _ _)
 
@@ -71,7 +67,6 @@ pub put-record-spec : {M : Type 1} → statement M
 put-record-spec =
     tie.close
     (tie.spec
-    flag-requires
     put-word-requires
     add-put-word
     put-word-requires-2

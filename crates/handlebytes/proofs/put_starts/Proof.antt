@@ -1,4 +1,4 @@
--- `put_starts` meets its contract: the stores are those of the run of words.
+-- `handlebytes::put_starts` meets its contract: the stores are those of the run of words.
 use Rattle.words.specs.Word.{putWords, putLong}
 use Rattle.handlebytes.specs.Bytes.{startWords}
 use borrow.Author.Needs.{needs}

@@ -1,4 +1,4 @@
--- `record_in` meets its contract: each field is its word.
+-- `handlebytes::record_in` meets its contract: each field is its word.
 use Rattle.handlebytes.specs.Bytes.{decodeRecord}
 use borrow.Author.Needs.{needs}
 use Rattle.handlebytes.proofs.record_in.Statement.{statement}

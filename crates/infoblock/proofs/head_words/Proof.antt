@@ -1,4 +1,4 @@
--- `format::info::head_words` meets its contract. Each word is what the call that gave it ensures.
+-- `infoblock::head_words` meets its contract. Each word is what the call that gave it ensures.
 use borrow.Author.Needs.{needs}
 use Rattle.infoblock.proofs.Stored.{head-is}
 use Rattle.infoblock.proofs.head_words.Statement.{statement}

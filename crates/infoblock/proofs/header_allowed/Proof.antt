@@ -1,4 +1,4 @@
--- `format::info::header_allowed` meets its contract. Each return rewrites with the tests that led to it.
+-- `infoblock::header_allowed` meets its contract. Each return rewrites with the tests that led to it.
 use borrow.Author.Tests.{ne-eqb, eq-eqb}
 use mathlib.Core.Bool.{and-true}
 use borrow.Author.Needs.{needs}

@@ -1,4 +1,4 @@
--- `format::info::info_allowed` meets its contract. Each return rewrites with what the two tests ensure.
+-- `infoblock::info_allowed` meets its contract. Each return rewrites with what the two tests ensure.
 use borrow.Author.Tests.{not-true, not-false}
 use mathlib.Core.Path.{sym, _∙_}
 use borrow.Author.Needs.{needs}

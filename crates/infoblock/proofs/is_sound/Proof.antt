@@ -1,4 +1,4 @@
--- `format::info::is_sound` meets its contract. Each return rewrites with the tests that led to it.
+-- `infoblock::is_sound` meets its contract. Each return rewrites with the tests that led to it.
 use borrow.Author.Tests.{not-true, not-false, eq-eqb, ne-eqb}
 use mathlib.Core.Path.{sym, _∙_}
 use borrow.Author.Needs.{needs}

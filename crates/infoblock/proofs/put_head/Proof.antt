@@ -1,4 +1,4 @@
--- `format::info::put_head` meets its contract. The invariant: the first k words are stored.
+-- `infoblock::put_head` meets its contract. The invariant: the first k words are stored.
 use lib.Seq.{take-all}
 use lib.ListN.{take}
 use borrow.Author.Needs.{needs}

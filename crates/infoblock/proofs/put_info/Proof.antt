@@ -1,4 +1,4 @@
--- `format::info::put_info` meets its contract. The stores one after the other; the words of the head fit 32 bits since they are a u32 array, so the
+-- `infoblock::put_info` meets its contract. The stores one after the other; the words of the head fit 32 bits since they are a u32 array, so the
 -- sums read back are those of the stored words.
 use mir.Syntax.{w32}
 use native.Mathlib.Omega.{arith}

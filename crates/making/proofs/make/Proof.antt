@@ -1,9 +1,9 @@
--- `arena::make::make` meets its contract. What is not refused has figures that fit, and the stores are those of a made arena.
+-- `making::make` meets its contract. What is not refused has figures that fit, and the stores are those of a made arena.
 use mathlib.Core.Path.{sym, _∙_}
 use borrow.Author.Tests.{not-true, not-false}
 use native.Mathlib.Omega.{arith}
 use Rattle.words.proofs.Runs.{length-putWords}
-use Rattle.machine.specs.Making.{madeArena}
+use Rattle.machine.specs.calls.Making.{freshArena}
 use Rattle.making.proofs.Laws.{make-refused, make-done, done-passed, made-fit}
 use borrow.Author.Needs.{needs}
 use Rattle.making.proofs.make.Statement.{statement}
@@ -21,8 +21,8 @@ returns c =
     let j = d .before in
     make-refused _ _ _ (j .judge-make .ensures) (sym (d .is-done .ensures) ∙ not-true (d .is-done .result) (c .if1 .taken))
 
-made-figures-requires : tie.Need-made-figures-requires
-made-figures-requires c κs =
+fresh-figures-requires : tie.Need-fresh-figures-requires
+fresh-figures-requires c κs =
     let d = c .before in
     let j = d .before in
     let p = done-passed _ _ (j .before .before .before .before .args .arena .now) (j .judge-make .ensures)
@@ -50,13 +50,14 @@ put-tail-requires c κs =
     let j = d .before in
     let p = done-passed _ _ (j .before .before .before .before .args .arena .now) (j .judge-make .ensures)
     (sym (d .is-done .ensures) ∙ not-false (d .is-done .result) (t .if1 .left)) in
-    (rw (m .made-figures .ensures, i .put-info .ensures, length-putWords) (made-fit _ _ p), (omega (arith, p .first), omega (arith, p .second)))
+    let f = made-fit _ _ p in
+    (rw (m .fresh-figures .ensures, i .put-info .ensures, length-putWords) f, (omega (arith, p .first), omega (arith, p .second)))
 
 same-length : tie.Need-same-length
 same-length c = search needs
 
 returns-2 : tie.Need-returns-2
-unfolding madeArena
+unfolding freshArena
 returns-2 c =
     let l = c .before .before in
     let i = l .before .before .before .before in
@@ -64,7 +65,7 @@ returns-2 c =
     let t = m .before in
     let d = t .before in
     let j = d .before in
-    rw (l .put-tail .ensures, i .put-info .ensures, m .made-figures .ensures)
+    rw (l .put-tail .ensures, i .put-info .ensures, m .fresh-figures .ensures)
     (make-done _ _ _ (j .judge-make .ensures) (sym (d .is-done .ensures) ∙ not-false (d .is-done .result) (t .if1 .left)))
 
 pub make-spec : {M : Type 1} → statement M
@@ -74,7 +75,7 @@ make-spec =
     judge-make-requires
     is-done-requires
     returns
-    made-figures-requires
+    fresh-figures-requires
     put-info-requires
     put-tail-requires
     same-length

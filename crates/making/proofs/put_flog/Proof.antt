@@ -1,4 +1,4 @@
--- `arena::make::put_flog` meets its contract. The loop's invariant: l lanes are stored. The measure is what is left of n.
+-- `making::put_flog` meets its contract. The loop's invariant: l lanes are stored. The measure is what is left of n.
 use native.Mathlib.Nat.{le-antisymm}
 use lib.ListN.{length}
 use Prim.Native.Nat.{_-_, _≤_}
@@ -7,7 +7,7 @@ use borrow.Author.Needs.{needs}
 use native.Mathlib.Omega.{arith}
 use Rattle.words.specs.Word.{putWords}
 use Rattle.words.proofs.Runs.{length-putWords}
-use Rattle.machine.specs.Making.{freshFlog}
+use Rattle.machine.specs.calls.Making.{freshFlog}
 use Rattle.making.proofs.Laws.{put-flog-more}
 use Rattle.making.proofs.put_flog.Statement.{statement}
 use Rattle.making.proofs.put_flog.Tie as tie
@@ -43,11 +43,9 @@ loop-less : tie.Need-loop-less Inv-loop μ-loop
 loop-less c = search needs
 
 loop-again : tie.Need-loop-again Inv-loop μ-loop
-loop-again c = (
-  search needs,
-  c .before .before .put-lane .ensures
-      ∙ rw (c .before .before .before .before .before .loop .inv .1) (put-flog-more _ _ _ (c .before .before .before .before .before .loop .l)),
-)
+loop-again c =
+    let at-loop = c .before .before .before .before .before in
+    (search needs, c .before .before .put-lane .ensures ∙ rw (at-loop .loop .inv .1) (put-flog-more _ _ _ (at-loop .loop .l)))
 
 same-length : tie.Need-same-length Inv-loop μ-loop
 same-length c = ap length (c .before .loop .inv .1) ∙ simp length-putWords

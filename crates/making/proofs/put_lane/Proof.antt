@@ -1,4 +1,4 @@
--- `arena::make::put_lane` meets its contract: its stores are those of a fresh lane's words, one after the other.
+-- `making::put_lane` meets its contract: its stores are those of a fresh lane's words, one after the other.
 use mathlib.Core.Path.{_∙_}
 use lib.ListN.{replicate}
 use Rattle.making.proofs.Laws.{put-four}
@@ -50,7 +50,8 @@ returns c =
     let w2 = w3 .before .before .before .before in
     let w1 = w2 .before .before .before .before in
     z .zero-words .ensures
-    ∙ rw (w4 .put-word4 .ensures, w3 .put-word3 .ensures, w2 .put-word2 .ensures, w1 .put-word .ensures) (put-four _ _ _ _ _ _ (replicate 12 0))
+    ∙ rw (w4 .put-word4 .ensures, w3 .put-word3 .ensures, w2 .put-word2 .ensures, w1 .put-word .ensures)
+    (put-four _ _ _ _ _ _ (replicate 12 0))
 
 pub put-lane-spec : {M : Type 1} → statement M
 put-lane-spec =

@@ -17,7 +17,7 @@ returns : tie.Need-returns
 returns c =
     let s = c .before .before .before .before in
     let e = sym (c .before .is-pending .ensures) ∙ not-true _ (c .if1 .taken) in
-    (count-none (s .args .count) _ e, turn-none (layoutOf (s .args .f)) (s .args .a .now) (s .args .l .0) _ e)
+    (count-none (s .args .count) _ e, turn-none (layoutOf (s .args .d) (s .args .f)) (s .args .a .now) (s .args .l .0) _ e)
 
 add-result : tie.Need-add-result
 add-result c = search needs
@@ -27,9 +27,11 @@ same-length-2 c = search needs
 
 returns-2 : tie.Need-returns-2
 returns-2 c =
-    let s = c .before .before .before .before .before in
-    let e = sym (c .before .before .is-pending .ensures) ∙ not-false _ (c .before .if1 .left) in
-    (count-one (s .args .count) _ e, turn-full (layoutOf (s .args .f)) (s .args .a .now) (s .args .l .0) _ e (le-ltb _ _ (c .if2 .taken)))
+    let at-is-pending = c .before .before in
+    let s = at-is-pending .before .before .before in
+    let e = sym (at-is-pending .is-pending .ensures) ∙ not-false _ (c .before .if1 .left) in
+    let k = le-ltb _ _ (c .if2 .taken) in
+    (count-one (s .args .count) _ e, turn-full (layoutOf (s .args .d) (s .args .f)) (s .args .a .now) (s .args .l .0) _ e k)
 
 mend-lane-requires : tie.Need-mend-lane-requires
 mend-lane-requires c κs = search needs
@@ -42,13 +44,13 @@ same-length-3 c = search needs
 
 returns-3 : tie.Need-returns-3
 returns-3 c =
-    let s = c .before .before .before .before .before .before .before .before .before in
-    let e = sym (c .before .before .before .before .before .before .is-pending .ensures) ∙ not-false _ (c .before .before .before .before .before
-    .if1 .left) in (
-      count-one (s .args .count) _ e,
-      c .before .before .mend-lane .ensures ∙ turn-store (layoutOf (s .args .f)) (s .args .a .now) (s .args .l .0) _ e
-          (lt-ltb _ _ (c .before .before .before .before .if2 .left)),
-    )
+    let at-mend-lane = c .before .before in
+    let at-if2 = at-mend-lane .before .before in
+    let at-is-pending = at-if2 .before .before in
+    let s = at-is-pending .before .before .before in
+    let e = sym (at-is-pending .is-pending .ensures) ∙ not-false _ (at-if2 .before .if1 .left) in
+    let t = turn-store (layoutOf (s .args .d) (s .args .f)) (s .args .a .now) (s .args .l .0) _ e (lt-ltb _ _ (at-if2 .if2 .left)) in
+    (count-one (s .args .count) _ e, at-mend-lane .mend-lane .ensures ∙ t)
 
 pub mend-next-spec : {M : Type 1} → statement M
 mend-next-spec =

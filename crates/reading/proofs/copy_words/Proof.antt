@@ -1,4 +1,4 @@
--- `copy_words` meets its contract. The loop's invariant: k words are copied. The measure is what is left of n.
+-- `reading::copy_words` meets its contract. The loop's invariant: k words are copied. The measure is what is left of n.
 use native.Mathlib.Nat.{le-antisymm}
 use lib.ListN.{length}
 use Prim.Native.Nat.{_-_, _≤_}

@@ -1,9 +1,14 @@
--- `judge_read` meets its contract: one law for each answer.
+-- `reading::judge_read` meets its contract: its tests are those of a read's rules, in their order.
 use mathlib.Core.Path.{sym, ap, _∙_}
 use native.Mathlib.Omega.{arith}
-use borrow.Author.Tests.{not-true, not-false}
+use mathlib.Core.Bool.{not}
+use borrow.Author.Tests.{not-false, le-leb, lt-leb, eq-eqb, ne-eqb}
 use Rattle.format.specs.MapWord.{flagsOf, readingOf, badWord}
-use Rattle.reading.proofs.Laws.{fit-of, bad-handle, no-such-sector, wrong-buffer, bad-map-word, bad-sector, accepted}
+use Rattle.layout.specs.Told.{alone}
+use Rattle.lanes.proofs.Lanes.{map-fit}
+use Rattle.machine.proofs.rules.Rules.{stop, pass, through}
+use Rattle.machine.proofs.rules.Running.{call-walk}
+use Rattle.machine.proofs.calls.Running.{handle-fit}
 use borrow.Author.Needs.{needs}
 use Rattle.reading.proofs.judge_read.Statement.{statement}
 use Rattle.reading.proofs.judge_read.Tie as tie
@@ -14,14 +19,14 @@ handle-allowed-requires c κs = search needs
 returns : tie.Need-returns
 returns c =
     let at-handle-allowed = c .before in
-    bad-handle _ _ _ _ (sym (at-handle-allowed .handle-allowed .ensures) ∙ not-true _ (c .if1 .taken))
+    call-walk _ _ _ (stop (ap not (sym (at-handle-allowed .handle-allowed .ensures)) ∙ c .if1 .taken))
 
 returns-2 : tie.Need-returns-2
 returns-2 c =
     let at-if1 = c .before .before .before .before in
     let at-handle-allowed = at-if1 .before in
-    let e = sym (at-handle-allowed .handle-allowed .ensures) ∙ not-false _ (at-if1 .if1 .left) in
-    no-such-sector _ _ _ _ e (c .if2 .taken)
+    let e = ap not (sym (at-handle-allowed .handle-allowed .ensures)) ∙ at-if1 .if1 .left in
+    call-walk _ _ _ (pass e (stop (le-leb _ _ (c .if2 .taken))))
 
 cast-if3 : tie.Need-cast-if3
 cast-if3 c = search needs
@@ -31,8 +36,8 @@ returns-3 c =
     let at-if2 = c .before .before in
     let at-if1 = at-if2 .before .before .before .before in
     let at-handle-allowed = at-if1 .before in
-    let e = sym (at-handle-allowed .handle-allowed .ensures) ∙ not-false _ (at-if1 .if1 .left) in
-    wrong-buffer _ _ _ _ e (at-if2 .if2 .left) (c .if3 .taken)
+    let e = ap not (sym (at-handle-allowed .handle-allowed .ensures)) ∙ at-if1 .if1 .left in
+    call-walk _ _ _ (pass e (pass (lt-leb _ _ (at-if2 .if2 .left)) (stop (ap not (ne-eqb _ _ (c .if3 .taken))))))
 
 map-word-requires : tie.Need-map-word-requires
 map-word-requires c κs =
@@ -40,7 +45,7 @@ map-word-requires c κs =
     let at-if1 = at-if2 .before .before .before .before in
     let at-handle-allowed = at-if1 .before in
     let e = sym (at-handle-allowed .handle-allowed .ensures) ∙ not-false _ (at-if1 .if1 .left) in
-    (fit-of _ _ e, omega (arith, at-if2 .if2 .left))
+    (map-fit _ _ _ (handle-fit _ _ e), omega (arith, at-if2 .if2 .left))
 
 bad-word-requires : tie.Need-bad-word-requires
 bad-word-requires c κs = search needs
@@ -52,9 +57,11 @@ returns-4 c =
     let at-if2 = at-if3 .before .before in
     let at-if1 = at-if2 .before .before .before .before in
     let at-handle-allowed = at-if1 .before in
-    let e = sym (at-handle-allowed .handle-allowed .ensures) ∙ not-false _ (at-if1 .if1 .left) in
-    let w = ap (badWord (at-handle-allowed .before .before .before .args .h .figures .blocks)) (sym (at-map-word .map-word .ensures)) in
-    bad-map-word _ _ _ _ e (at-if2 .if2 .left) (at-if3 .if3 .left) (w ∙ sym (c .before .bad-word .ensures) ∙ c .if4 .taken)
+    let e = ap not (sym (at-handle-allowed .handle-allowed .ensures)) ∙ at-if1 .if1 .left in
+    let m = at-map-word .map-word .ensures (alone .distance) in
+    let w = ap (badWord (at-handle-allowed .before .before .before .args .h .figures .blocks)) (sym m) in
+    let v = w ∙ sym (c .before .bad-word .ensures) ∙ c .if4 .taken in
+    call-walk _ _ _ (pass e (pass (lt-leb _ _ (at-if2 .if2 .left)) (pass (ap not (eq-eqb _ _ (at-if3 .if3 .left))) (stop v))))
 
 reading-of-requires : tie.Need-reading-of-requires
 reading-of-requires c κs = search needs
@@ -67,11 +74,13 @@ returns-5 c =
     let at-if2 = at-if3 .before .before in
     let at-if1 = at-if2 .before .before .before .before in
     let at-handle-allowed = at-if1 .before in
-    let e = sym (at-handle-allowed .handle-allowed .ensures) ∙ not-false _ (at-if1 .if1 .left) in
-    let w = ap (badWord (at-handle-allowed .before .before .before .args .h .figures .blocks)) (sym (at-map-word .map-word .ensures)) in
+    let e = ap not (sym (at-handle-allowed .handle-allowed .ensures)) ∙ at-if1 .if1 .left in
+    let m = at-map-word .map-word .ensures (alone .distance) in
+    let w = ap (badWord (at-handle-allowed .before .before .before .args .h .figures .blocks)) (sym m) in
     let v = w ∙ sym (at-if4 .before .bad-word .ensures) ∙ at-if4 .if4 .left in
-    let r = sym (c .before .reading-of .ensures ∙ ap (λ x. readingOf (flagsOf x)) (at-map-word .map-word .ensures)) in
-    bad-sector _ _ _ _ e (at-if2 .if2 .left) (at-if3 .if3 .left) v (r ∙ c .if5 .taken)
+    let r = sym (c .before .reading-of .ensures ∙ ap (λ x. readingOf (flagsOf x)) m) in
+    let n = eq-eqb _ _ (r ∙ c .if5 .taken) in
+    call-walk _ _ _ (pass e (pass (lt-leb _ _ (at-if2 .if2 .left)) (pass (ap not (eq-eqb _ _ (at-if3 .if3 .left))) (pass v (stop n)))))
 
 returns-6 : tie.Need-returns-6
 returns-6 c =
@@ -81,11 +90,14 @@ returns-6 c =
     let at-if2 = at-if3 .before .before in
     let at-if1 = at-if2 .before .before .before .before in
     let at-handle-allowed = at-if1 .before in
-    let e = sym (at-handle-allowed .handle-allowed .ensures) ∙ not-false _ (at-if1 .if1 .left) in
-    let w = ap (badWord (at-handle-allowed .before .before .before .args .h .figures .blocks)) (sym (at-map-word .map-word .ensures)) in
+    let e = ap not (sym (at-handle-allowed .handle-allowed .ensures)) ∙ at-if1 .if1 .left in
+    let m = at-map-word .map-word .ensures (alone .distance) in
+    let w = ap (badWord (at-handle-allowed .before .before .before .args .h .figures .blocks)) (sym m) in
     let v = w ∙ sym (at-if4 .before .bad-word .ensures) ∙ at-if4 .if4 .left in
-    let r = sym (c .before .reading-of .ensures ∙ ap (λ x. readingOf (flagsOf x)) (at-map-word .map-word .ensures)) in
-    accepted _ _ _ _ e (at-if2 .if2 .left) (at-if3 .if3 .left) v (λ x. c .if5 .left (sym r ∙ x))
+    let r = sym (c .before .reading-of .ensures ∙ ap (λ x. readingOf (flagsOf x)) m) in
+    let n = ne-eqb _ _ (λ x. c .if5 .left (sym r ∙ x)) in
+    call-walk _ _ _
+    (pass e (pass (lt-leb _ _ (at-if2 .if2 .left)) (pass (ap not (eq-eqb _ _ (at-if3 .if3 .left))) (pass v (pass n through)))))
 
 pub judge-read-spec : {M : Type 1} → statement M
 judge-read-spec =

@@ -1,11 +1,15 @@
--- `read` meets its contract: a refused read leaves its buffer, and an accepted one fills it, by its map word, with the block's bytes or zeroes.
+-- `reading::read` meets its contract: a refused read leaves its buffer, and an accepted one fills it, by its map word, with the block's
+-- bytes or zeroes.
 use mathlib.Core.Path.{sym, ap, _∙_}
 use Prim.Native.Nat.{ℕ}
 use native.Mathlib.Omega.{arith}
 use borrow.Author.Tests.{not-true, not-false}
 use Rattle.format.specs.MapWord.{flagsOf, readingOf, blockOf}
 use Rattle.layout.specs.Place.{layoutOf, inData, at}
-use Rattle.reading.proofs.Laws.{fit-of, refused, known, inside, gives-bytes, gives-zeroes}
+use Rattle.layout.specs.Told.{alone}
+use Rattle.lanes.proofs.Lanes.{map-fit}
+use Rattle.machine.proofs.calls.Running.{handle-fit}
+use Rattle.reading.proofs.Laws.{refused, known, inside, gives-bytes, gives-zeroes}
 use borrow.Author.Needs.{needs}
 use Rattle.reading.proofs.read.Statement.{statement}
 use Rattle.reading.proofs.read.Tie as tie
@@ -36,7 +40,7 @@ map-word-requires c κs =
     let j = at-judge-read .judge-read in
     let t = sym (at-is-done .is-done .ensures) ∙ not-false _ (at-if1 .if1 .left) in
     let k = known _ _ _ _ (j .result) (j .ensures) t in
-    (fit-of _ _ (k .handle), k .sector)
+    (map-fit _ _ _ (handle-fit _ _ (k .handle)), k .sector)
 
 reading-of-requires : tie.Need-reading-of-requires
 reading-of-requires c κs = search needs
@@ -59,9 +63,11 @@ copy-words-requires c κs =
     let t = sym (at-is-done .is-done .ensures) ∙ not-false _ (at-if1 .if1 .left) in
     let k = known _ _ _ _ (j .result) (j .ensures) t in
     let start = at-judge-read .before .before .before .before in
-    let b = at-block-of .block-of .ensures ∙ ap (blockOf (start .args .sector .0)) (at-map-word .map-word .ensures) in
-    let p = at-data-place .data-place .ensures ∙ ap (λ (n : ℕ). at (layoutOf (start .args .h .figures)) (inData n 0)) b in
-    (omega (arith, p, inside _ _ _ _ (j .result) (j .ensures) t), omega (arith, k .room))
+    let d = alone .distance in
+    let m = at-map-word .map-word .ensures d in
+    let b = at-block-of .block-of .ensures ∙ ap (blockOf (start .args .sector .0)) m in
+    let p = at-data-place .data-place .ensures d ∙ ap (λ (n : ℕ). at (layoutOf d (start .args .h .figures)) (inData n 0)) b in
+    (omega (arith, p, inside _ _ _ _ (j .result) (j .ensures) t), omega (arith, k .size))
 
 same-length-2 : tie.Need-same-length-2
 same-length-2 c = search needs
@@ -78,11 +84,13 @@ returns-2 c =
     let j = at-judge-read .judge-read in
     let t = sym (at-is-done .is-done .ensures) ∙ not-false _ (at-if1 .if1 .left) in
     let start = at-judge-read .before .before .before .before in
-    let b = at-block-of .block-of .ensures ∙ ap (blockOf (start .args .sector .0)) (at-map-word .map-word .ensures) in
-    let p = at-data-place .data-place .ensures ∙ ap (λ (n : ℕ). at (layoutOf (start .args .h .figures)) (inData n 0)) b in
+    let d = alone .distance in
+    let m = at-map-word .map-word .ensures d in
+    let b = at-block-of .block-of .ensures ∙ ap (blockOf (start .args .sector .0)) m in
+    let p = at-data-place .data-place .ensures d ∙ ap (λ (n : ℕ). at (layoutOf d (start .args .h .figures)) (inData n 0)) b in
     let at-if2 = at-block-of .before in
     let at-reading-of = at-if2 .before in
-    let w = ap (λ x. readingOf (flagsOf x)) (sym (at-map-word .map-word .ensures)) ∙ sym (at-reading-of .reading-of .ensures) in
+    let w = ap (λ x. readingOf (flagsOf x)) (sym m) ∙ sym (at-reading-of .reading-of .ensures) in
     let at-slice-known = at-judge-read .before .before in
     gives-bytes _ _ _ _ (j .result) (j .ensures) t (λ i. at-slice-known .slice-known .given i .fits)
     (λ i. at-slice-known .before .shared-slice-known .given i .fits) _ p (w ∙ at-if2 .if2 .taken) _ (at-copy-words .copy-words .ensures)
@@ -95,7 +103,7 @@ zero-words-requires c κs =
     let j = at-judge-read .judge-read in
     let t = sym (at-is-done .is-done .ensures) ∙ not-false _ (at-if1 .if1 .left) in
     let k = known _ _ _ _ (j .result) (j .ensures) t in
-    omega (arith, k .room)
+    omega (arith, k .size)
 
 same-length-3 : tie.Need-same-length-3
 same-length-3 c = search needs
@@ -111,7 +119,8 @@ returns-3 c =
     let at-judge-read = at-is-done .before in
     let j = at-judge-read .judge-read in
     let t = sym (at-is-done .is-done .ensures) ∙ not-false _ (at-if1 .if1 .left) in
-    let w = ap (λ x. readingOf (flagsOf x)) (sym (at-map-word .map-word .ensures)) ∙ sym (at-reading-of .reading-of .ensures) in
+    let m = at-map-word .map-word .ensures (alone .distance) in
+    let w = ap (λ x. readingOf (flagsOf x)) (sym m) ∙ sym (at-reading-of .reading-of .ensures) in
     let at-slice-known = at-judge-read .before .before in
     gives-zeroes _ _ _ _ (j .result) (j .ensures) t (λ i. at-slice-known .slice-known .given i .fits)
     (λ x. at-if2 .if2 .left (sym w ∙ x)) _ (at-zero-words .zero-words .ensures)

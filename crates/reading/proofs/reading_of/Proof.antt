@@ -1,4 +1,4 @@
--- `reading_of` meets its contract: each arm knows its variant, and the state's flags are the word's.
+-- `reading::reading_of` meets its contract: each arm knows its variant, and the state's flags are the word's.
 use mathlib.Core.Path.{sym, ap, _∙_}
 use Rattle.format.specs.MapWord.{readingOf, readingNumber}
 use borrow.Author.Needs.{needs}

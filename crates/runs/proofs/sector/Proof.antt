@@ -1,4 +1,5 @@
--- `runs::sector` meets its contract. The loop's invariant: j is at most 512, and the array keeps its length. The measure is what is left of 512.
+-- `runs::sector` meets its contract. The loop's invariant: j is at most 512, and the array keeps its length.
+-- The measure is what is left of 512.
 use mathlib.Core.Path.{_≡_}
 use Prim.Native.Nat.{_-_, _≤_}
 use borrow.Author.Needs.{needs}

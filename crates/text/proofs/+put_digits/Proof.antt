@@ -1,4 +1,4 @@
--- `report::text::put_digits` meets its contract, by recursion on the number of digits: the digits before the last are those of n / 10.
+-- `text::put_digits` meets its contract, by recursion on the number of digits: the digits before the last are those of n / 10.
 use Rattle.text.proofs.Laws.{digits-none, digits-one, digits-more}
 use native.Mathlib.Omega.{arith}
 use borrow.Author.Needs.{needs}

@@ -1,4 +1,4 @@
--- `report::text::put_head` meets its contract: its four lines, one after the other, are `headText`.
+-- `text::put_head` meets its contract: its four lines, one after the other, are `headText`.
 use Rattle.text.proofs.Laws.{put-append, head-pieces}
 use borrow.Author.Needs.{needs}
 use Rattle.text.proofs.put_head.Statement.{statement}

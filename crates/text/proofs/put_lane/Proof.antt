@@ -1,4 +1,4 @@
--- `report::text::put_lane` meets its contract: its three named numbers, one after the other, are `laneText`.
+-- `text::put_lane` meets its contract: its three named numbers, one after the other, are `laneText`.
 use Rattle.text.proofs.Laws.{put-append, lane-pieces}
 use borrow.Author.Needs.{needs}
 use Rattle.text.proofs.put_lane.Statement.{statement}

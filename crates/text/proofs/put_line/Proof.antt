@@ -1,4 +1,4 @@
--- `report::text::put_line` meets its contract: the text and the number, and then the newline.
+-- `text::put_line` meets its contract: the text and the number, and then the newline.
 use Rattle.text.proofs.Laws.{put-append}
 use borrow.Author.Needs.{needs}
 use Rattle.text.proofs.put_line.Statement.{statement}
@@ -17,7 +17,9 @@ same-length : tie.Need-same-length
 same-length c = search needs
 
 returns : tie.Need-returns
-returns c = (put-append (c .before .before .before .before .before .before .before .put-named .ensures .0) (c .before .before .put-text .ensures), search needs)
+returns c =
+    let t = c .before .before in
+    (put-append (t .before .before .before .before .before .put-named .ensures .0) (t .put-text .ensures), search needs)
 
 pub put-line-spec : {M : Type 1} → statement M
 put-line-spec =

@@ -1,4 +1,4 @@
--- `report::text::put_opened` meets its contract: the head, the lanes and the last line, from place 0 on, are `openedText`, which fits.
+-- `text::put_opened` meets its contract: the head, the lanes and the last line, from place 0 on, are `openedText`, which fits.
 use Rattle.text.proofs.Laws.{put-append, whole, opened-pieces}
 use borrow.Author.Needs.{needs}
 use Rattle.text.proofs.put_opened.Statement.{statement}

@@ -1,4 +1,4 @@
--- `report::text::put_refused` meets its contract: its line from place 0 on is `refusedText`, which fits.
+-- `text::put_refused` meets its contract: its line from place 0 on is `refusedText`, which fits.
 use Rattle.text.proofs.Laws.{whole, refused-pieces}
 use borrow.Author.Needs.{needs}
 use Rattle.text.proofs.put_refused.Statement.{statement}

@@ -1,4 +1,4 @@
--- `report::text::put_text` meets its contract. The loop's invariant: the first i bytes of the text are stored. The measure is what is left of it.
+-- `text::put_text` meets its contract. The loop's invariant: the first i bytes of the text are stored. The measure is what is left of it.
 use Rattle.text.proofs.Laws.{sets-more, put-all}
 use lib.Seq.{sets, length-sets}
 use lib.ListN.{length, take}

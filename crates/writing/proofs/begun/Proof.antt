@@ -1,5 +1,8 @@
--- `writing::begun` meets its contract: the lane is below 16, and the map names the old block.
+-- `writing::begun` meets its contract: the lane's record is the array's, and the map names the old block.
 use mathlib.Core.Path.{_∙_}
+use Rattle.layout.specs.Told.{alone}
+use Rattle.lanes.proofs.Lanes.{map-fit}
+use Rattle.machine.proofs.calls.Rule16.{lane-taken}
 use borrow.Author.Needs.{needs}
 use Rattle.writing.proofs.begun.Statement.{statement}
 use Rattle.writing.proofs.begun.Tie as tie
@@ -14,13 +17,16 @@ element-copy-out-r : tie.Need-element-copy-out-r
 element-copy-out-r c = search needs
 
 map-block-requires : tie.Need-map-block-requires
-map-block-requires c κs = search needs
+map-block-requires c κs = let s = c .before .before .before .before in (map-fit _ _ _ (s .pre .0), s .pre .1 .1)
 
 start-requires : tie.Need-start-requires
 start-requires c κs = search needs
 
 returns : tie.Need-returns
-returns c = c .start .ensures ∙ rw (c .before .map-block .ensures)
+returns c =
+    let s = c .before .before .before .before .before .before in
+    let f = lane-taken (s .args .t2 .lanes) (s .args .t2 .figures .lanes) (s .args .lane .0) (s .pre .1 .0) in
+    c .start .ensures ∙ rw (c .before .map-block .ensures (alone .distance), f)
 
 pub begun-spec : {M : Type 1} → statement M
 begun-spec =

@@ -1,8 +1,12 @@
--- `writing::judge_step` meets its contract. Each answer is a law of a step's refusals at the tests that led there.
-use Rattle.writing.proofs.Rules.{handle-fit, step-16, step-11, step-14, step-10, step-0}
+-- `writing::judge_step` meets its contract: its tests are those of a step's rules, in their order.
+use mathlib.Core.Path.{sym, ap, _∙_}
+use mathlib.Core.Bool.{not}
 use native.Mathlib.Omega.{arith}
-use borrow.Author.Tests.{not-true, not-false}
-use mathlib.Core.Path.{sym, _∙_}
+use borrow.Author.Tests.{not-true, not-false, le-leb, lt-leb, eq-eqb, ne-eqb}
+use Rattle.machine.proofs.rules.Rules.{stop, pass, through}
+use Rattle.machine.proofs.rules.Running.{call-walk}
+use Rattle.machine.proofs.calls.Running.{handle-fit}
+use Rattle.writing.proofs.Rules.{busy-taken}
 use borrow.Author.Needs.{needs}
 use Rattle.writing.proofs.judge_step.Statement.{statement}
 use Rattle.writing.proofs.judge_step.Tie as tie
@@ -11,12 +15,13 @@ handle-allowed-requires : tie.Need-handle-allowed-requires
 handle-allowed-requires c κs = search needs
 
 returns : tie.Need-returns
-returns c = step-16 _ _ _ _ (sym (c .before .handle-allowed .ensures) ∙ not-true (c .before .handle-allowed .result) (c .if1 .taken))
+returns c = call-walk _ _ _ (stop (ap not (sym (c .before .handle-allowed .ensures)) ∙ c .if1 .taken))
 
 returns-2 : tie.Need-returns-2
-returns-2 c = let e1 = c .before .before .before .before in
-    let a = sym (e1 .before .handle-allowed .ensures) ∙ not-false (e1 .before .handle-allowed .result) (e1 .if1 .left) in
-    step-11 _ _ _ _ a (c .if2 .taken)
+returns-2 c =
+    let e1 = c .before .before .before .before in
+    let e = ap not (sym (e1 .before .handle-allowed .ensures)) ∙ e1 .if1 .left in
+    call-walk _ _ _ (pass e (stop (le-leb _ _ (c .if2 .taken))))
 
 cast-i : tie.Need-cast-i
 cast-i c = search needs
@@ -25,33 +30,47 @@ mul-r : tie.Need-mul-r
 mul-r c = search needs
 
 element-copy-out-r : tie.Need-element-copy-out-r
-element-copy-out-r c = let e2 = c .before in
-    let e1 = e2 .before .before .before .before in
-    let a = sym (e1 .before .handle-allowed .ensures) ∙ not-false (e1 .before .handle-allowed .result) (e1 .if1 .left) in
-    omega (arith, handle-fit _ _ a .few)
+element-copy-out-r c =
+    let e1 = c .before .before .before .before .before in
+    omega (arith, handle-fit _ _ (sym (e1 .before .handle-allowed .ensures) ∙ not-false _ (e1 .if1 .left)) .few)
+
+is-busy-requires : tie.Need-is-busy-requires
+is-busy-requires c κs = search needs
 
 returns-3 : tie.Need-returns-3
-returns-3 c = let e2 = c .before .before .before .before in
+returns-3 c =
+    let e2 = c .before .before .before .before in
     let e1 = e2 .before .before .before .before in
-    let a = sym (e1 .before .handle-allowed .ensures) ∙ not-false (e1 .before .handle-allowed .result) (e1 .if1 .left) in
-    step-14 _ _ _ _ a (e2 .if2 .left) (not-true _ (c .if3 .taken))
+    let z = e1 .before .before .before .before in
+    let e = ap not (sym (e1 .before .handle-allowed .ensures)) ∙ e1 .if1 .left in
+    let r = busy-taken (z .args .t2 .lanes) (z .args .t2 .figures .lanes) (z .args .lane .0) (e2 .if2 .left) _ _ in
+    let b = ap not (r (c .before .is-busy .ensures) (not-true _ (c .if3 .taken))) in
+    call-walk _ _ _ (pass e (pass (lt-leb _ _ (e2 .if2 .left)) (stop b)))
 
 cast-if4 : tie.Need-cast-if4
 cast-if4 c = search needs
 
 returns-4 : tie.Need-returns-4
-returns-4 c = let e3 = c .before .before in
+returns-4 c =
+    let e3 = c .before .before in
     let e2 = e3 .before .before .before .before in
     let e1 = e2 .before .before .before .before in
-    let a = sym (e1 .before .handle-allowed .ensures) ∙ not-false (e1 .before .handle-allowed .result) (e1 .if1 .left) in
-    step-10 _ _ _ _ a (e2 .if2 .left) (not-false _ (e3 .if3 .left)) (c .if4 .taken)
+    let z = e1 .before .before .before .before in
+    let e = ap not (sym (e1 .before .handle-allowed .ensures)) ∙ e1 .if1 .left in
+    let r = busy-taken (z .args .t2 .lanes) (z .args .t2 .figures .lanes) (z .args .lane .0) (e2 .if2 .left) _ _ in
+    let b = ap not (r (e3 .before .is-busy .ensures) (not-false _ (e3 .if3 .left))) in
+    call-walk _ _ _ (pass e (pass (lt-leb _ _ (e2 .if2 .left)) (pass b (stop (ap not (ne-eqb _ _ (c .if4 .taken)))))))
 
 returns-5 : tie.Need-returns-5
-returns-5 c = let e3 = c .before .before in
+returns-5 c =
+    let e3 = c .before .before in
     let e2 = e3 .before .before .before .before in
     let e1 = e2 .before .before .before .before in
-    let a = sym (e1 .before .handle-allowed .ensures) ∙ not-false (e1 .before .handle-allowed .result) (e1 .if1 .left) in
-    step-0 _ _ _ _ a (e2 .if2 .left) (not-false _ (e3 .if3 .left)) (c .if4 .left)
+    let z = e1 .before .before .before .before in
+    let e = ap not (sym (e1 .before .handle-allowed .ensures)) ∙ e1 .if1 .left in
+    let r = busy-taken (z .args .t2 .lanes) (z .args .t2 .figures .lanes) (z .args .lane .0) (e2 .if2 .left) _ _ in
+    let b = ap not (r (e3 .before .is-busy .ensures) (not-false _ (e3 .if3 .left))) in
+    call-walk _ _ _ (pass e (pass (lt-leb _ _ (e2 .if2 .left)) (pass b (pass (ap not (eq-eqb _ _ (c .if4 .left))) through))))
 
 pub judge-step-spec : {M : Type 1} → statement M
 judge-step-spec =
@@ -63,6 +82,7 @@ judge-step-spec =
     cast-i
     mul-r
     element-copy-out-r
+    is-busy-requires
     returns-3
     cast-if4
     returns-4

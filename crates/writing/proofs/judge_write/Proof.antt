@@ -1,8 +1,14 @@
--- `writing::judge_write` meets its contract. Each answer is a law of a write's refusals at the tests that led there.
-use Rattle.writing.proofs.Rules.{handle-fit, word-test, write-16, write-11, write-12, write-9, write-10, write-13, write-7, write-0}
+-- `writing::judge_write` meets its contract: its tests are those of a write's rules, in their order.
+use mathlib.Core.Path.{sym, ap, _∙_}
+use mathlib.Core.Bool.{not}
 use native.Mathlib.Omega.{arith}
-use borrow.Author.Tests.{not-true, not-false}
-use mathlib.Core.Path.{sym, _∙_}
+use borrow.Author.Tests.{not-false, le-leb, lt-leb}
+use Rattle.layout.specs.Told.{alone}
+use Rattle.lanes.proofs.Lanes.{map-fit}
+use Rattle.machine.proofs.rules.Rules.{stop, pass, through}
+use Rattle.machine.proofs.rules.Running.{call-walk}
+use Rattle.machine.proofs.calls.Running.{handle-fit}
+use Rattle.writing.proofs.Rules.{busy-taken, word-test}
 use borrow.Author.Needs.{needs}
 use Rattle.writing.proofs.judge_write.Statement.{statement}
 use Rattle.writing.proofs.judge_write.Tie as tie
@@ -11,13 +17,13 @@ handle-allowed-requires : tie.Need-handle-allowed-requires
 handle-allowed-requires c κs = search needs
 
 returns : tie.Need-returns
-returns c =
-    λ bytes _. write-16 _ _ _ _ bytes (sym (c .before .handle-allowed .ensures) ∙ not-true (c .before .handle-allowed .result) (c .if1 .taken))
+returns c = λ bytes _. call-walk _ _ _ (stop (ap not (sym (c .before .handle-allowed .ensures)) ∙ c .if1 .taken))
 
 returns-2 : tie.Need-returns-2
-returns-2 c = let e1 = c .before .before .before .before in
-    let a = sym (e1 .before .handle-allowed .ensures) ∙ not-false (e1 .before .handle-allowed .result) (e1 .if1 .left) in
-    λ bytes _. write-11 _ _ _ _ bytes a (c .if2 .taken)
+returns-2 c =
+    let e1 = c .before .before .before .before in
+    let e = ap not (sym (e1 .before .handle-allowed .ensures)) ∙ e1 .if1 .left in
+    λ bytes _. call-walk _ _ _ (pass e (stop (le-leb _ _ (c .if2 .taken))))
 
 cast-i : tie.Need-cast-i
 cast-i c = search needs
@@ -26,91 +32,135 @@ mul-r : tie.Need-mul-r
 mul-r c = search needs
 
 element-copy-out-r : tie.Need-element-copy-out-r
-element-copy-out-r c = let e2 = c .before in
+element-copy-out-r c =
+    let e2 = c .before in
     let e1 = e2 .before .before .before .before in
-    let a = sym (e1 .before .handle-allowed .ensures) ∙ not-false (e1 .before .handle-allowed .result) (e1 .if1 .left) in
-    omega (arith, handle-fit _ _ a .few)
+    let h = e1 .before .handle-allowed .ensures in
+    omega (arith, handle-fit _ _ (sym h ∙ not-false _ (e1 .if1 .left)) .few)
+
+is-busy-requires : tie.Need-is-busy-requires
+is-busy-requires c κs = search needs
 
 returns-3 : tie.Need-returns-3
-returns-3 c = let e2 = c .before .before .before in
+returns-3 c =
+    let e3 = c in
+    let e2 = e3 .before .before .before .before in
     let e1 = e2 .before .before .before .before in
-    let a = sym (e1 .before .handle-allowed .ensures) ∙ not-false (e1 .before .handle-allowed .result) (e1 .if1 .left) in
-    λ bytes _. write-12 _ _ _ _ bytes a (e2 .if2 .left) (c .if3 .taken)
+    let h = e1 .before .handle-allowed .ensures in
+    let e = ap not (sym h) ∙ e1 .if1 .left in
+    let z = e1 .before .before .before in
+    let r = busy-taken (z .args .t2 .lanes) (z .args .t2 .figures .lanes) (z .args .lane .0) (e2 .if2 .left) _ _ in
+    let b = r (e3 .before .is-busy .ensures) (e3 .if3 .taken) in
+    let k = lt-leb _ _ (e2 .if2 .left) in
+    λ bytes _. call-walk _ _ _ (pass e (pass k (stop b)))
 
 returns-4 : tie.Need-returns-4
-returns-4 c = let e3 = c .before .before .before in
-    let e2 = e3 .before .before .before in
+returns-4 c =
+    let e3 = c .before .before .before in
+    let e2 = e3 .before .before .before .before in
     let e1 = e2 .before .before .before .before in
-    let a = sym (e1 .before .handle-allowed .ensures) ∙ not-false (e1 .before .handle-allowed .result) (e1 .if1 .left) in
-    λ bytes _. write-9 _ _ _ _ bytes a (e2 .if2 .left) (e3 .if3 .left) (c .if4 .taken)
+    let h = e1 .before .handle-allowed .ensures in
+    let e = ap not (sym h) ∙ e1 .if1 .left in
+    let z = e1 .before .before .before in
+    let r = busy-taken (z .args .t2 .lanes) (z .args .t2 .figures .lanes) (z .args .lane .0) (e2 .if2 .left) _ _ in
+    let b = r (e3 .before .is-busy .ensures) (e3 .if3 .left) in
+    let k = lt-leb _ _ (e2 .if2 .left) in
+    λ bytes _. call-walk _ _ _ (pass e (pass k (pass b (stop (le-leb _ _ (c .if4 .taken))))))
 
 returns-5 : tie.Need-returns-5
-returns-5 c = let e4 = c .before in
+returns-5 c =
+    let e4 = c .before in
     let e3 = e4 .before .before .before in
-    let e2 = e3 .before .before .before in
+    let e2 = e3 .before .before .before .before in
     let e1 = e2 .before .before .before .before in
-    let a = sym (e1 .before .handle-allowed .ensures) ∙ not-false (e1 .before .handle-allowed .result) (e1 .if1 .left) in
-    λ bytes n. write-10 _ _ _ _ bytes a (e2 .if2 .left) (e3 .if3 .left) (e4 .if4 .left) (sym n ∙ not-true _ (c .if5 .taken))
+    let h = e1 .before .handle-allowed .ensures in
+    let e = ap not (sym h) ∙ e1 .if1 .left in
+    let z = e1 .before .before .before in
+    let r = busy-taken (z .args .t2 .lanes) (z .args .t2 .figures .lanes) (z .args .lane .0) (e2 .if2 .left) _ _ in
+    let b = r (e3 .before .is-busy .ensures) (e3 .if3 .left) in
+    let k = lt-leb _ _ (e2 .if2 .left) in
+    λ bytes n. call-walk _ _ _
+    (pass e (pass k (pass b (pass (lt-leb _ _ (e4 .if4 .left)) (stop (ap not (sym n) ∙ c .if5 .taken))))))
 
 in-flight-requires : tie.Need-in-flight-requires
-in-flight-requires c κs = let e5 = c in
-    let e4 = e5 .before in
+in-flight-requires c κs =
+    let e4 = c .before in
     let e3 = e4 .before .before .before in
-    let e2 = e3 .before .before .before in
+    let e2 = e3 .before .before .before .before in
     let e1 = e2 .before .before .before .before in
-    let a = sym (e1 .before .handle-allowed .ensures) ∙ not-false (e1 .before .handle-allowed .result) (e1 .if1 .left) in
-    handle-fit _ _ a .few
+    let h = e1 .before .handle-allowed .ensures in
+    handle-fit _ _ (sym h ∙ not-false _ (e1 .if1 .left)) .few
 
 returns-6 : tie.Need-returns-6
-returns-6 c = let e5 = c .before .before in
+returns-6 c =
+    let e5 = c .before .before in
     let e4 = e5 .before in
     let e3 = e4 .before .before .before in
-    let e2 = e3 .before .before .before in
+    let e2 = e3 .before .before .before .before in
     let e1 = e2 .before .before .before .before in
-    let a = sym (e1 .before .handle-allowed .ensures) ∙ not-false (e1 .before .handle-allowed .result) (e1 .if1 .left) in
-    λ bytes n. write-13 _ _ _ _ bytes a (e2 .if2 .left) (e3 .if3 .left) (e4 .if4 .left) (sym n ∙ not-false _ (e5 .if5 .left))
-    (sym (c .before .in-flight .ensures) ∙ c .if6 .taken)
+    let h = e1 .before .handle-allowed .ensures in
+    let e = ap not (sym h) ∙ e1 .if1 .left in
+    let z = e1 .before .before .before in
+    let r = busy-taken (z .args .t2 .lanes) (z .args .t2 .figures .lanes) (z .args .lane .0) (e2 .if2 .left) _ _ in
+    let b = r (e3 .before .is-busy .ensures) (e3 .if3 .left) in
+    let k = lt-leb _ _ (e2 .if2 .left) in
+    let g = sym (c .before .in-flight .ensures) ∙ c .if6 .taken in
+    λ bytes n. call-walk _ _ _
+    (pass e (pass k (pass b (pass (lt-leb _ _ (e4 .if4 .left)) (pass (ap not (sym n) ∙ e5 .if5 .left) (stop g))))))
 
 map-word-requires : tie.Need-map-word-requires
-map-word-requires c κs = let e6 = c in
-    let e5 = e6 .before .before in
-    let e4 = e5 .before in
+map-word-requires c κs =
+    let e4 = c .before .before .before in
     let e3 = e4 .before .before .before in
-    let e2 = e3 .before .before .before in
+    let e2 = e3 .before .before .before .before in
     let e1 = e2 .before .before .before .before in
-    let a = sym (e1 .before .handle-allowed .ensures) ∙ not-false (e1 .before .handle-allowed .result) (e1 .if1 .left) in
-    (handle-fit _ _ a, e4 .if4 .left)
+    let h = e1 .before .handle-allowed .ensures in
+    (map-fit _ _ _ (handle-fit _ _ (sym h ∙ not-false _ (e1 .if1 .left))), e4 .if4 .left)
 
 bad-word-requires : tie.Need-bad-word-requires
 bad-word-requires c κs = search needs
 
 returns-7 : tie.Need-returns-7
-returns-7 c = let b = c .before in
-    let w = b .before in
-    let e6 = w .before in
+returns-7 c =
+    let at-map-word = c .before .before in
+    let e6 = at-map-word .before in
     let e5 = e6 .before .before in
     let e4 = e5 .before in
     let e3 = e4 .before .before .before in
-    let e2 = e3 .before .before .before in
+    let e2 = e3 .before .before .before .before in
     let e1 = e2 .before .before .before .before in
-    let a = sym (e1 .before .handle-allowed .ensures) ∙ not-false (e1 .before .handle-allowed .result) (e1 .if1 .left) in
-    λ bytes n. write-7 _ _ _ _ bytes a (e2 .if2 .left) (e3 .if3 .left) (e4 .if4 .left) (sym n ∙ not-false _ (e5 .if5 .left))
-    (sym (e6 .before .in-flight .ensures) ∙ e6 .if6 .left)
-    (word-test _ _ _ _ _ (w .map-word .ensures) (b .bad-word .ensures) (c .if7 .taken))
+    let h = e1 .before .handle-allowed .ensures in
+    let e = ap not (sym h) ∙ e1 .if1 .left in
+    let z = e1 .before .before .before in
+    let r = busy-taken (z .args .t2 .lanes) (z .args .t2 .figures .lanes) (z .args .lane .0) (e2 .if2 .left) _ _ in
+    let b = r (e3 .before .is-busy .ensures) (e3 .if3 .left) in
+    let k = lt-leb _ _ (e2 .if2 .left) in
+    let g = sym (e6 .before .in-flight .ensures) ∙ e6 .if6 .left in
+    let m = at-map-word .map-word .ensures (alone .distance) in
+    let w = word-test _ _ _ _ _ m (c .before .bad-word .ensures) (c .if7 .taken) in
+    λ bytes n. call-walk _ _ _
+    (pass e (pass k (pass b (pass (lt-leb _ _ (e4 .if4 .left)) (pass (ap not (sym n) ∙ e5 .if5 .left) (pass g (stop w)))))))
 
 returns-8 : tie.Need-returns-8
-returns-8 c = let b = c .before in
-    let w = b .before in
-    let e6 = w .before in
+returns-8 c =
+    let at-map-word = c .before .before in
+    let e6 = at-map-word .before in
     let e5 = e6 .before .before in
     let e4 = e5 .before in
     let e3 = e4 .before .before .before in
-    let e2 = e3 .before .before .before in
+    let e2 = e3 .before .before .before .before in
     let e1 = e2 .before .before .before .before in
-    let a = sym (e1 .before .handle-allowed .ensures) ∙ not-false (e1 .before .handle-allowed .result) (e1 .if1 .left) in
-    λ bytes n. write-0 _ _ _ _ bytes a (e2 .if2 .left) (e3 .if3 .left) (e4 .if4 .left) (sym n ∙ not-false _ (e5 .if5 .left))
-    (sym (e6 .before .in-flight .ensures) ∙ e6 .if6 .left)
-    (word-test _ _ _ _ _ (w .map-word .ensures) (b .bad-word .ensures) (c .if7 .left))
+    let h = e1 .before .handle-allowed .ensures in
+    let e = ap not (sym h) ∙ e1 .if1 .left in
+    let z = e1 .before .before .before in
+    let r = busy-taken (z .args .t2 .lanes) (z .args .t2 .figures .lanes) (z .args .lane .0) (e2 .if2 .left) _ _ in
+    let b = r (e3 .before .is-busy .ensures) (e3 .if3 .left) in
+    let k = lt-leb _ _ (e2 .if2 .left) in
+    let g = sym (e6 .before .in-flight .ensures) ∙ e6 .if6 .left in
+    let m = at-map-word .map-word .ensures (alone .distance) in
+    let w = word-test _ _ _ _ _ m (c .before .bad-word .ensures) (c .if7 .left) in
+    λ bytes n. call-walk _ _ _
+    (pass e (pass k (pass b (pass (lt-leb _ _ (e4 .if4 .left)) (pass (ap not (sym n) ∙ e5 .if5 .left) (pass g (pass w through)))))))
 
 pub judge-write-spec : {M : Type 1} → statement M
 judge-write-spec =
@@ -122,6 +172,7 @@ judge-write-spec =
     cast-i
     mul-r
     element-copy-out-r
+    is-busy-requires
     returns-3
     returns-4
     returns-5

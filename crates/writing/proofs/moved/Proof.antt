@@ -1,6 +1,6 @@
 -- `writing::moved` meets its contract: the last store finishes the record, another counts.
 use Rattle.layout.specs.Place.{layoutOf}
-use Rattle.machine.proofs.Steps.{stored-more, stored-last}
+use Rattle.machine.proofs.invariant.Steps.{stored-more, stored-last}
 use mathlib.Core.Path.{sym, _∙_}
 use borrow.Author.Needs.{needs}
 use Rattle.writing.proofs.moved.Statement.{statement}
@@ -17,14 +17,14 @@ finished-requires c κs = search needs
 
 returns : tie.Need-returns
 unfolding layoutOf
-returns c = c .finished .ensures ∙ sym (stored-last _ _ (c .before .if1 .taken))
+returns c = λ d. c .finished .ensures ∙ sym (stored-last _ _ (c .before .if1 .taken))
 
 stored-requires : tie.Need-stored-requires
 stored-requires c κs = search needs
 
 returns-2 : tie.Need-returns-2
 unfolding layoutOf
-returns-2 c = c .stored .ensures ∙ sym (stored-more _ _ (c .before .if1 .left))
+returns-2 c = λ d. c .stored .ensures ∙ sym (stored-more _ _ (c .before .if1 .left))
 
 pub moved-spec : {M : Type 1} → statement M
 moved-spec =

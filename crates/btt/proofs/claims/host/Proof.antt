@@ -1,14 +1,28 @@
--- `claims::host` ensures the claim about the library's calls, which is proved in `Fits`, `Same` and `Shown`.
-use Rattle.btt.proofs.Fits.{opened-stands}
+-- `btt::claims::host` ensures the claim about the library's calls, which is proved in `Fits`, `Same` and `Shown`.
+use mathlib.Core.Path.{refl}
+use Rattle.btt.proofs.Fits.{opened-holds, refused-zeroes}
 use Rattle.btt.proofs.Same.{read-same, start-same, step-same, write-same}
-use Rattle.btt.proofs.Shown.{info-shown, read-left, start-left, step-left, write-left, record-only, lane-shown, place-told}
+use Rattle.btt.proofs.Shown.{
+  info-shown,
+  read-left,
+  start-left,
+  step-left,
+  write-left,
+  busy-wrong,
+  record-only,
+  lane-answered,
+  next-answered,
+  lane-shown,
+  place-told,
+}
 use Rattle.btt.proofs.claims.host.Statement.{statement}
 use Rattle.btt.proofs.claims.host.Tie as tie
 
 returns : tie.Need-returns
 returns c = record {
   info-block = info-shown;
-  opened = opened-stands;
+  opened = opened-holds;
+  open-refused = refused-zeroes;
   read = read-same;
   start = λ a b h l s t. start-same a b h l t s;
   step = λ a b h l buffer t. step-same a b h l t buffer;
@@ -17,7 +31,12 @@ returns c = record {
   start-refused = start-left;
   step-refused = step-left;
   write-refused = write-left;
+  busy = busy-wrong;
   kept = record-only;
+  lane-order = λ l. refl;
+  next-order = λ l. refl;
+  lane-answers = lane-answered;
+  next-answers = next-answered;
   lane = lane-shown;
   next-store = place-told;
 }

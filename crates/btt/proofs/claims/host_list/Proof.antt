@@ -1,4 +1,4 @@
--- `claims::host_list` ensures the claim about a host's lists of calls, which is proved in `Listing`.
+-- `btt::claims::host_list` ensures the claim about a host's lists of calls, which is proved in `Listing`.
 use Rattle.btt.proofs.Listing.{calls-same, events-same, first-same}
 use Rattle.btt.proofs.claims.host_list.Statement.{statement}
 use Rattle.btt.proofs.claims.host_list.Tie as tie

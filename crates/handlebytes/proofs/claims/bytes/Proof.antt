@@ -1,4 +1,4 @@
--- `claims::bytes` ensures the claim about the bytes of a handle, which is proved in `Round` and `Whole`.
+-- `handlebytes::claims::bytes` ensures the claim about the bytes of a handle, which is proved in `Round` and `Whole`.
 use Rattle.handlebytes.proofs.Round.{stored-stands, fits-back}
 use Rattle.handlebytes.proofs.Whole.{encoded-stands, zeroes-stand}
 use Rattle.handlebytes.proofs.claims.bytes.Statement.{statement}

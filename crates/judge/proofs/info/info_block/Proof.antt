@@ -1,4 +1,4 @@
--- `info_block` meets its contract: an allowed length leaves room for both blocks, and the part up to the end is the last 4,096 bytes.
+-- `judge::info::info_block` meets its contract: an allowed length leaves room for both blocks, and the part up to the end is the last 4,096 bytes.
 use mathlib.Core.Path.{sym, _∙_}
 use Prim.Native.Nat.{_-_, _≤_}
 use native.Mathlib.Omega.{arith}

@@ -1,81 +1,126 @@
--- `judge_info` meets its contract: the number of the block that counts is the number of the arena, and only a block that passes gives figures.
+-- `judge::opening::judge_info` meets its contract: each return walks the order of rules 1 to 4, and only a block that passes gives figures.
 use mathlib.Core.Path.{sym, ap, _∙_}
-use Prim.Native.Nat.{_-_}
-use borrow.Author.Tests.{not-true, not-false, eqb-true}
+use borrow.Author.Tests.{eq-eqb, ne-eqb, not-false}
 use borrow.Author.Needs.{needs}
-use Rattle.infoblock.proofs.InfoBlock.{length-of}
 use Rattle.infoblock.specs.Info.{figuresOf}
-use Rattle.judge.proofs.Rules.{has-bytes, block-whole, wrong-length, info-number, figures-none, figures-some}
+use Rattle.infoblock.proofs.InfoBlock.{length-of}
+use Rattle.machine.proofs.rules.Rules.{walked, stop, pass, through}
+use Rattle.judge.proofs.Parts.{block-whole}
 use Rattle.judge.proofs.opening.judge_info.Statement.{statement}
 use Rattle.judge.proofs.opening.judge_info.Tie as tie
 
 length-allowed-requires : tie.Need-length-allowed-requires
 length-allowed-requires c κs = search needs
 
-no-figures-requires : tie.Need-no-figures-requires
-no-figures-requires c κs = search needs
+refused-requires : tie.Need-refused-requires
+refused-requires c κs = search needs
 
 returns : tie.Need-returns
 returns c =
-    let at-length-allowed = c .before .before in
-    let e = sym (at-length-allowed .length-allowed .ensures) ∙ not-true (at-length-allowed .length-allowed .result) (c .before .if1 .taken) in
-    let w = wrong-length _ e in
-    (sym (w .0), c .no-figures .ensures ∙ sym (w .1))
+    let e = c .refused .ensures in
+    (λ room. rw (e .0) (walked (stop (rw (← c .before .before .length-allowed .ensures) (c .before .if1 .taken)))), rw (e .0) (e .1))
 
 info-block-requires : tie.Need-info-block-requires
 info-block-requires c κs = search needs
 
-judge-block-requires : tie.Need-judge-block-requires
-judge-block-requires c κs =
-    let e = sym (c .before .before .length-allowed .ensures) ∙ not-false (c .before .before .length-allowed .result) (c .before .if1 .left) in
-    (length-of _ e .2, block-whole _ _ (c .info-block .ensures))
-
-is-done-requires : tie.Need-is-done-requires
-is-done-requires c κs = search needs
-
-no-figures-requires-2 : tie.Need-no-figures-requires-2
-no-figures-requires-2 c κs = search needs
+refused-requires-2 : tie.Need-refused-requires-2
+refused-requires-2 c κs = search needs
 
 returns-2 : tie.Need-returns-2
 returns-2 c =
-    let at-is-done = c .before .before in
-    let at-judge-block = at-is-done .before in
-    let at-info-block = at-judge-block .before in
+    let at-info-block = c .before .before in
     let at-if1 = at-info-block .before in
-    let at-length-allowed = at-if1 .before in
-    let e = sym (at-length-allowed .length-allowed .ensures) ∙ not-false (at-length-allowed .length-allowed .result) (at-if1 .if1 .left) in
-    let n = info-number _ _ _ e (at-info-block .info-block .ensures) (at-judge-block .judge-block .ensures) in
-    let d = sym (at-is-done .is-done .ensures) ∙ not-true (at-is-done .is-done .result) (c .before .if2 .taken) in
-    (n, c .no-figures2 .ensures ∙ sym (figures-none _ _ n d))
+    let b = at-info-block .info-block .ensures in
+    let p1 = at-if1 .if1 .left in
+    let e = c .refused2 .ensures in (
+      λ room. rw (e .0) (walked (pass (rw (← at-if1 .before .length-allowed .ensures) p1)
+          (stop (rw (← b) (eq-eqb _ _ (c .before .if2 .taken)))))),
+      rw (e .0) (e .1),
+    )
 
-figures-of-requires : tie.Need-figures-of-requires
-figures-of-requires c κs =
-    let d = sym (c .before .is-done .ensures) ∙ not-false (c .before .is-done .result) (c .if2 .left) in
-    block-whole _ _ (c .before .before .before .info-block .ensures) (has-bytes _ _ (sym (c .before .before .judge-block .ensures) ∙ eqb-true _ 0 d))
+info-allowed-requires : tie.Need-info-allowed-requires
+info-allowed-requires c κs =
+    let at-if1 = c .before .before in
+    let at-length-allowed = at-if1 .before in
+    let l = sym (at-length-allowed .length-allowed .ensures) ∙ not-false (at-length-allowed .length-allowed .result) (at-if1 .if1 .left) in
+    (block-whole _ _ (c .before .info-block .ensures) (c .if2 .left), length-of _ l .2)
+
+flags-allowed-requires : tie.Need-flags-allowed-requires
+flags-allowed-requires c κs = block-whole _ _ (c .before .before .info-block .ensures) (c .before .if2 .left)
+
+refused-requires-3 : tie.Need-refused-requires-3
+refused-requires-3 c κs = search needs
 
 returns-3 : tie.Need-returns-3
 returns-3 c =
-    let at-is-done = c .before .before in
-    let at-judge-block = at-is-done .before in
-    let at-info-block = at-judge-block .before in
+    let at-info-allowed = c .before .before .before in
+    let at-if2 = at-info-allowed .before in
+    let at-info-block = at-if2 .before in
     let at-if1 = at-info-block .before in
-    let at-length-allowed = at-if1 .before in
-    let e = sym (at-length-allowed .length-allowed .ensures) ∙ not-false (at-length-allowed .length-allowed .result) (at-if1 .if1 .left) in
-    let n = info-number _ _ _ e (at-info-block .info-block .ensures) (at-judge-block .judge-block .ensures) in
-    let d = sym (at-is-done .is-done .ensures) ∙ not-false (at-is-done .is-done .result) (c .before .if2 .left) in
-    (n, c .figures-of .ensures ∙ ap figuresOf (at-info-block .info-block .ensures) ∙ sym (figures-some _ _ n d))
+    let b = at-info-block .info-block .ensures in
+    let p1 = at-if1 .if1 .left in
+    let e = c .refused3 .ensures in (
+      λ room. rw (e .0) (walked (pass (rw (← at-if1 .before .length-allowed .ensures) p1) (pass (rw (← b) (ne-eqb _ _ (at-if2 .if2 .left)))
+          (stop (rw (← b, ← at-info-allowed .info-allowed .ensures) (c .before .if3 .taken)))))),
+      rw (e .0) (e .1),
+    )
+
+refused-requires-4 : tie.Need-refused-requires-4
+refused-requires-4 c κs = search needs
+
+returns-4 : tie.Need-returns-4
+returns-4 c =
+    let at-flags-allowed = c .before .before .before in
+    let at-info-allowed = at-flags-allowed .before in
+    let at-if2 = at-info-allowed .before in
+    let at-info-block = at-if2 .before in
+    let at-if1 = at-info-block .before in
+    let b = at-info-block .info-block .ensures in
+    let p1 = at-if1 .if1 .left in
+    let p3 = c .before .before .if3 .left in
+    let e = c .refused4 .ensures in (
+      λ room. rw (e .0) (walked (pass (rw (← at-if1 .before .length-allowed .ensures) p1) (pass (rw (← b) (ne-eqb _ _ (at-if2 .if2 .left)))
+          (pass (rw (← b, ← at-info-allowed .info-allowed .ensures) p3)
+          (stop (rw (← b, ← at-flags-allowed .flags-allowed .ensures) (c .before .if4 .taken))))))),
+      rw (e .0) (e .1),
+    )
+
+figures-of-requires : tie.Need-figures-of-requires
+figures-of-requires c κs =
+    let at-if2 = c .before .before .before .before in
+    block-whole _ _ (at-if2 .before .info-block .ensures) (at-if2 .if2 .left)
+
+returns-5 : tie.Need-returns-5
+returns-5 c =
+    let at-flags-allowed = c .before .before .before in
+    let at-info-allowed = at-flags-allowed .before in
+    let at-if2 = at-info-allowed .before in
+    let at-info-block = at-if2 .before in
+    let at-if1 = at-info-block .before in
+    let b = at-info-block .info-block .ensures in
+    let p1 = at-if1 .if1 .left in
+    let p3 = c .before .before .if3 .left in (
+      λ room. walked (pass (rw (← at-if1 .before .length-allowed .ensures) p1) (pass (rw (← b) (ne-eqb _ _ (at-if2 .if2 .left)))
+          (pass (rw (← b, ← at-info-allowed .info-allowed .ensures) p3)
+          (pass (rw (← b, ← at-flags-allowed .flags-allowed .ensures) (c .before .if4 .left)) through)))),
+      c .figures-of .ensures ∙ ap figuresOf b,
+    )
 
 pub judge-info-spec : {M : Type 1} → statement M
 judge-info-spec =
     tie.close
     (tie.spec
     length-allowed-requires
-    no-figures-requires
+    refused-requires
     returns
     info-block-requires
-    judge-block-requires
-    is-done-requires
-    no-figures-requires-2
+    refused-requires-2
     returns-2
+    info-allowed-requires
+    flags-allowed-requires
+    refused-requires-3
+    returns-3
+    refused-requires-4
+    returns-4
     figures-of-requires
-    returns-3)
+    returns-5)

@@ -1,5 +1,5 @@
 -- `claims::demand_one` ensures demand 1, which is proved in `DemandOne`.
-use Rattle.machine.proofs.DemandOne.{demand-one}
+use Rattle.machine.proofs.calls.DemandOne.{demand-one}
 use Rattle.machine.proofs.claims.demand_one.Statement.{statement}
 use Rattle.machine.proofs.claims.demand_one.Tie as tie
 

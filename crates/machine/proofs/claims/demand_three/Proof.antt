@@ -1,5 +1,5 @@
 -- `claims::demand_three` ensures demand 3, which is proved in `DemandThree`.
-use Rattle.machine.proofs.DemandThree.{demand-three}
+use Rattle.machine.proofs.book.DemandThree.{demand-three}
 use Rattle.machine.proofs.claims.demand_three.Statement.{statement}
 use Rattle.machine.proofs.claims.demand_three.Tie as tie
 

@@ -1,5 +1,5 @@
 -- `claims::demand_two` ensures demand 2, which is proved in `DemandTwo`.
-use Rattle.machine.proofs.DemandTwo.{demand-two}
+use Rattle.machine.proofs.row.DemandTwo.{demand-two}
 use Rattle.machine.proofs.claims.demand_two.Statement.{statement}
 use Rattle.machine.proofs.claims.demand_two.Tie as tie
 

@@ -1,10 +1,10 @@
 -- `machine::handle::handle_allowed` meets its contract. Each answer is a law of rule 16 at the tests that led there.
-use mathlib.Core.Path.{sym, _∙_}
+use mathlib.Core.Path.{refl, sym, _∙_}
 use borrow.Author.Needs.{needs}
 use borrow.Author.Tests.{not-true, not-false}
 use Rattle.layout.proofs.Allowed.{allowed-of}
 use Rattle.infoblock.proofs.InfoBlock.{length-of}
-use Rattle.machine.proofs.Rule16.{handle-length, handle-slice, handle-figures, handle-last}
+use Rattle.machine.proofs.calls.Rule16.{handle-length, handle-slice, handle-figures, handle-last}
 use Rattle.machine.proofs.handle.handle_allowed.Statement.{statement}
 use Rattle.machine.proofs.handle.handle_allowed.Tie as tie
 
@@ -28,7 +28,7 @@ returns-3 : tie.Need-returns-3
 returns-3 c =
     let q = c .before .before in
     let p = q .before .before in
-    handle-figures _ _ (sym (p .before .length-allowed .ensures) ∙ not-false (p .before .length-allowed .result) (p .if1 .left)) (q .if2 .left)
+    handle-figures _ _ (sym (p .before .length-allowed .ensures) ∙ not-false (p .before .length-allowed .result) (p .if1 .left)) (q .if2 .left) refl
     (sym (c .before .figures-allowed .ensures) ∙ not-true (c .before .figures-allowed .result) (c .if3 .taken))
 
 lanes-allowed-requires : tie.Need-lanes-allowed-requires
@@ -41,7 +41,7 @@ returns-4 c =
     let q = r .before .before in
     let p = q .before .before in
     c .lanes-allowed .ensures
-    ∙ handle-last _ _ (sym (p .before .length-allowed .ensures) ∙ not-false (p .before .length-allowed .result) (p .if1 .left)) (q .if2 .left)
+    ∙ handle-last _ _ (sym (p .before .length-allowed .ensures) ∙ not-false (p .before .length-allowed .result) (p .if1 .left)) (q .if2 .left) refl
     (sym (r .before .figures-allowed .ensures) ∙ not-false (r .before .figures-allowed .result) (r .if3 .left))
 
 pub handle-allowed-spec : {M : Type 1} → statement M

@@ -1,25 +1,31 @@
 //! The command line.
 use crate::problem::Problem;
-use btt::{Geometry, ID_SIZE};
+use btt::ID_SIZE;
 use std::collections::HashMap;
 use std::ffi::OsString;
 
 pub const HELP: &str = "\
 btt: sectors that a power cut cannot tear, in a file that holds one arena of a block translation table
 
-  btt make FILE --size S --sectors E --lanes N [--id HEX] [--parent HEX] [--force]
-                      makes an arena of E sectors of S bytes (512 or 4096) with N lanes (1 to 16, at most E); the
-                      identifiers are 32 hexadecimal digits, zeroes if not given; --force replaces a file
-  btt report FILE     what opening finds: the figures, the lanes mended, each lane's free block and next sequence
-  btt dump FILE       more of it: where the parts are, each lane's record, each sector's state and block
-  btt read FILE N     writes sector N to standard output
-  btt write FILE N    writes sector N from standard input, just S bytes; killed at any moment, it leaves the sector
-                      as it was or as it is to be, whole
+  btt make FILE --bytes B      makes an arena with the most sectors that fit into B bytes, such as 49152, 64K or 16M,
+                               which is the most, and says what it made
+  btt make FILE --sectors E    makes an arena of just E sectors
+      --size S                 the bytes of a sector, 512 or 4096; 512 if not given
+      --lanes N                how many writes can be in flight at once, 1 to 16 and at most the sectors; 4 if not given
+      --id HEX, --parent HEX   identifiers of 32 hexadecimal digits; zeroes if not given
+      --force                  replaces a file that is there, if it is a regular one: no symbolic link, no device
+                               (without it the file system must have hard links)
+  btt report FILE              what opening finds: the figures, the lanes mended, each lane's free block and next sequence
+  btt dump FILE                more of it: where the parts are, each lane's record, each sector's state and block
+  btt read FILE N              writes sector N to standard output
+  btt write FILE N             writes sector N from standard input, just S bytes; killed at any moment, it leaves the
+                               sector as it was or as it is to be, whole
   btt --help, btt --version
 
+After -- every word is a plain one, so that a file's name may begin with a dash.
 report, dump and read do not change the file: what opening mends they mend in memory.
 Exit status: 0 done; 1 refused, with the number of the answer and what it means on standard error; 2 the command
-line is not understood; 3 a file cannot be read or written.
+line is not understood; 3 a file, or standard output, cannot be read or written.
 ";
 
 /// What is asked.
@@ -27,12 +33,36 @@ line is not understood; 3 a file cannot be read or written.
 pub enum Command {
     Help,
     Version,
-    Make { geometry: Geometry, own: Vec<u8>, parent: Vec<u8>, force: bool },
+    Make(Make),
     Report,
     Dump,
     Read { sector: u32 },
     Write { sector: u32 },
 }
+
+/// The arena that make is asked for.
+#[derive(Debug, PartialEq)]
+pub struct Make {
+    pub size: u32,
+    pub lanes: u32,
+    pub room: Room,
+    pub own: Vec<u8>,
+    pub parent: Vec<u8>,
+    pub force: bool,
+}
+
+/// How many sectors it is to have.
+#[derive(Debug, PartialEq)]
+pub enum Room {
+    /// So many.
+    Sectors(u32),
+    /// The most that fit into so many bytes.
+    Bytes(u64),
+}
+
+/// What make takes where it is not told.
+const SIZE: u32 = 512;
+const LANES: u32 = 4;
 
 #[derive(Debug, PartialEq)]
 pub struct Arguments {
@@ -47,11 +77,12 @@ struct Words {
     force: bool,
 }
 
-const OPTIONS: [&str; 5] = ["--size", "--sectors", "--lanes", "--id", "--parent"];
+const OPTIONS: [&str; 6] = ["--bytes", "--size", "--sectors", "--lanes", "--id", "--parent"];
 
 pub fn parse(given: impl Iterator<Item = OsString>) -> Result<Arguments, Problem> {
     let given: Vec<OsString> = given.collect();
-    let has = |names: [&str; 2]| given.iter().any(|word| names.iter().any(|name| word == name));
+    let options = || given.iter().take_while(|word| *word != "--");
+    let has = |names: [&str; 2]| options().any(|word| names.iter().any(|name| word == name));
     if has(["--help", "-h"]) {
         return Ok(Arguments { command: Command::Help, file: OsString::new() });
     }
@@ -79,6 +110,10 @@ fn sorted(given: Vec<OsString>) -> Result<Words, Problem> {
     let mut given = given.into_iter();
     while let Some(word) = given.next() {
         let option = match word.to_str() {
+            Some("--") => {
+                words.plain.extend(given);
+                break;
+            }
             Some("--force") => {
                 words.force = true;
                 continue;
@@ -127,18 +162,25 @@ impl Words {
     }
 
     fn making(&self) -> Result<Command, Problem> {
-        let geometry =
-            Geometry { size: self.number("--size")?, sectors: self.number("--sectors")?, lanes: self.number("--lanes")? };
-        Ok(Command::Make { geometry, own: self.identifier("--id")?, parent: self.identifier("--parent")?, force: self.force })
+        let option = |name| self.options.get(name).map(String::as_str);
+        let room = match (option("--sectors"), option("--bytes")) {
+            (Some(text), None) => Room::Sectors(number("--sectors", text)?),
+            (None, Some(text)) => Room::Bytes(bytes("--bytes", text)?),
+            _ => return Err(Problem::Usage("make needs --bytes or --sectors, one of them".into())),
+        };
+        let figure = |name, otherwise| option(name).map_or(Ok(otherwise), |text| number(name, text));
+        Ok(Command::Make(Make {
+            size: figure("--size", SIZE)?,
+            lanes: figure("--lanes", LANES)?,
+            room,
+            own: self.identifier("--id")?,
+            parent: self.identifier("--parent")?,
+            force: self.force,
+        }))
     }
 
     fn sector(&self) -> Result<u32, Problem> {
         number("the sector", &self.plain[2].to_string_lossy())
-    }
-
-    fn number(&self, name: &str) -> Result<u32, Problem> {
-        let text = self.options.get(name).ok_or_else(|| Problem::Usage(format!("make needs {name}")))?;
-        number(name, text)
     }
 
     /// The bytes of an identifier; the library judges how many there are.
@@ -154,8 +196,22 @@ impl Words {
     }
 }
 
+/// A number of digits alone.
 fn number(name: &str, text: &str) -> Result<u32, Problem> {
-    text.parse().map_err(|_| Problem::Usage(format!("{name} is a number from 0 to {}, not {text}", u32::MAX)))
+    let value = if text.bytes().all(|byte| byte.is_ascii_digit()) { text.parse().ok() } else { None };
+    value.ok_or_else(|| Problem::Usage(format!("{name} is a number from 0 to {}, not {text}", u32::MAX)))
+}
+
+/// A number of bytes, with K or M for 1,024 or 1,048,576 of them.
+fn bytes(name: &str, text: &str) -> Result<u64, Problem> {
+    let (digits, unit) = match text.strip_suffix(['K', 'M']) {
+        Some(digits) if text.ends_with('K') => (digits, 1 << 10),
+        Some(digits) => (digits, 1 << 20),
+        None => (text, 1),
+    };
+    let count = number(name, digits)
+        .map_err(|_| Problem::Usage(format!("{name} is a number, with K or M after it or not, not {text}")))?;
+    Ok(u64::from(count) * unit)
 }
 
 #[cfg(test)]
@@ -166,13 +222,15 @@ mod tests {
         parse(line.split_whitespace().map(OsString::from))
     }
 
+    fn make(line: &str) -> Make {
+        match parsed(line).unwrap().command {
+            Command::Make(make) => make,
+            other => panic!("{line}: {other:?}"),
+        }
+    }
+
     #[test]
     fn commands_are_understood() {
-        let geometry = Geometry { size: 512, sectors: 60, lanes: 4 };
-        let own: Vec<u8> = (0..16).map(|i| i * 17).collect();
-        let made = parsed("make a --size 512 --sectors=60 --lanes 4 --id 00112233-4455-6677-8899-aabbccddeeFF").unwrap();
-        assert_eq!(made.command, Command::Make { geometry, own, parent: vec![0; 16], force: false });
-        assert_eq!(made.file, "a");
         assert_eq!(parsed("read a 7").unwrap().command, Command::Read { sector: 7 });
         assert_eq!(parsed("write a 7").unwrap().command, Command::Write { sector: 7 });
         assert_eq!(parsed("report a").unwrap().command, Command::Report);
@@ -182,11 +240,36 @@ mod tests {
     }
 
     #[test]
+    fn makings_are_understood() {
+        let own: Vec<u8> = (0..16).map(|i| i * 17).collect();
+        let told = make("make a --size 4096 --sectors=60 --lanes 2 --id 00112233-4455-6677-8899-aabbccddeeFF --force");
+        assert_eq!(told, Make { size: 4096, lanes: 2, room: Room::Sectors(60), own, parent: vec![0; 16], force: true });
+        let zeroes = || vec![0; 16];
+        for (text, bytes) in
+            [("49152", 49_152), ("48K", 49_152), ("16M", 16_777_216), ("0", 0), ("4294967295M", 0xFFFF_FFFF << 20)]
+        {
+            let told = make(&format!("make a --bytes {text}"));
+            let room = Room::Bytes(bytes);
+            assert_eq!(told, Make { size: 512, lanes: 4, room, own: zeroes(), parent: zeroes(), force: false });
+        }
+    }
+
+    #[test]
+    fn after_two_dashes_words_are_plain() {
+        let read = parsed("read -- --help 7").unwrap();
+        assert_eq!((read.file, read.command), ("--help".into(), Command::Read { sector: 7 }));
+        let made = parsed("make --bytes 48K -- --").unwrap();
+        assert!(made.file == "--" && matches!(made.command, Command::Make(_)));
+    }
+
+    #[test]
     fn other_lines_are_not() {
-        let lines = "|reed a|report|report a b|read a|read a x|read a -1|read a 4294967296|write a 1 2|dump a --size 512|make a\
-            |make a --size 512 --sectors 60|make a --size 512 --sectors 60 --lanes|make a --size 512 --size 512 --sectors 6 --lanes 1\
-            |make a --size 512 --sectors 60 --lanes 4 --id 0|make a --size 512 --sectors 60 --lanes 4 --id xx|report a --force\
-            |make a b --size 512 --sectors 60 --lanes 4|make a --size 512 --sectors 60 --lanes 4 --other 1";
+        let lines = "|reed a|report|report a b|read a|read a x|read a -1|read a +5|read a 4294967296|write a 1 2|write a +1\
+            |dump a --size 512|make a|make a --size 512 --lanes 4|make a --bytes 1M --sectors 60|make a --sectors 60 --lanes\
+            |make a --sectors 60 --size 512 --size 512|make a --sectors 60 --id 0|make a --sectors 60 --id xx|report a --force\
+            |make a b --sectors 60|make a --sectors 60 --other 1|make a --sectors +60|make a --sectors 60 --size +512\
+            |make a --bytes|make a --bytes M|make a --bytes 1G|make a --bytes +1M|make a --bytes 1.5M|make a --bytes 4294967296|--|-- --help\
+            |read -- a 7 --force|report -";
         for line in lines.split('|') {
             assert!(matches!(parsed(line), Err(Problem::Usage(_))), "{line}");
         }

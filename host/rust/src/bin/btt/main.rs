@@ -2,12 +2,14 @@
 mod arguments;
 mod file;
 mod making;
+mod output;
 mod problem;
 mod storing;
 mod text;
 
 use arguments::{Arguments, Command};
-use btt::{AlignedBytes, Answer, Arena, Volume};
+use btt::{AlignedBytes, Answer, Arena, OpenArena};
+use output::print;
 use problem::Problem;
 use std::env;
 use std::ffi::OsStr;
@@ -30,20 +32,18 @@ fn main() -> ExitCode {
 }
 
 fn run(arguments: Arguments) -> Result<(), Problem> {
+    if !matches!(arguments.command, Command::Write { .. }) {
+        output::must_be_open()?;
+    }
     match arguments.command {
         Command::Help => print(arguments::HELP.as_bytes()),
         Command::Version => print(concat!("btt ", env!("CARGO_PKG_VERSION"), "\n").as_bytes()),
-        Command::Make { geometry, own, parent, force } => making::make(&arguments.file, geometry, &own, &parent, force),
+        Command::Make(asked) => making::make(&arguments.file, &asked),
         Command::Report => told(&arguments.file, text::report),
         Command::Dump => told(&arguments.file, text::dump),
         Command::Read { sector } => read(&arguments.file, sector),
         Command::Write { sector } => write(&arguments.file, sector),
     }
-}
-
-fn print(bytes: &[u8]) -> Result<(), Problem> {
-    let mut out = io::stdout();
-    out.write_all(bytes).and_then(|()| out.flush()).map_err(|error| Problem::File(format!("standard output: {error}")))
 }
 
 /// An arena in memory. The bytes are aligned, so the one check of the wrapper holds.
@@ -61,9 +61,9 @@ fn told(file: &OsStr, tell: fn(&mut AlignedBytes) -> (String, Result<(), Answer>
 /// Prints a sector; what opening mends it mends in memory, and the file is not changed.
 fn read(file: &OsStr, sector: u32) -> Result<(), Problem> {
     let mut bytes = file::load(file)?;
-    let volume = Volume::open(lent(&mut bytes))?;
-    let mut buffer = vec![0; volume.sector_size()];
-    volume.read_sector(sector, &mut buffer)?;
+    let opened = OpenArena::open(lent(&mut bytes))?;
+    let mut buffer = vec![0; opened.sector_size()];
+    opened.read_sector(sector, &mut buffer)?;
     print(&buffer)
 }
 

@@ -8,6 +8,8 @@ use std::process::ExitCode;
 pub enum Problem {
     /// The library refused.
     Refused(Answer),
+    /// No arena is made for so many bytes: the library would refuse every length with 1.
+    Room(String),
     /// The command line is not understood.
     Usage(String),
     /// A file cannot be read or written.
@@ -17,7 +19,7 @@ pub enum Problem {
 impl Problem {
     pub fn exit_code(&self) -> ExitCode {
         ExitCode::from(match self {
-            Problem::Refused(_) => 1,
+            Problem::Refused(_) | Problem::Room(_) => 1,
             Problem::Usage(_) => 2,
             Problem::File(_) => 3,
         })
@@ -34,6 +36,7 @@ impl fmt::Display for Problem {
     fn fmt(&self, f: &mut fmt::Formatter<'_>) -> fmt::Result {
         match self {
             Problem::Refused(answer) => write!(f, "refused {}: {answer}", answer.number()),
+            Problem::Room(message) => write!(f, "refused {}: {message}", Answer::WrongLength.number()),
             Problem::Usage(message) => write!(f, "{message}\nbtt --help tells how it is used"),
             Problem::File(message) => f.write_str(message),
         }

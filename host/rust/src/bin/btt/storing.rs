@@ -1,7 +1,7 @@
 //! A write to the file of an arena, store by store.
 use crate::lent;
 use crate::problem::Problem;
-use btt::{AlignedBytes, Answer, Volume, MAX_BLOCKS};
+use btt::{AlignedBytes, Answer, OpenArena, MAX_BLOCKS};
 use std::fs::File;
 use std::io;
 use std::os::unix::fs::FileExt;
@@ -31,16 +31,16 @@ fn failed(error: io::Error) -> Problem {
 
 /// Writes a sector of the arena that the bytes hold and the medium has, mending first what opening mends. A refusal stores nothing.
 pub fn write(bytes: &mut AlignedBytes, medium: &mut impl Medium, sector: u32, buffer: &[u8]) -> Result<(), Problem> {
-    Volume::open(lent(&mut bytes.clone()))?.write_sector(sector, buffer)?;
+    OpenArena::open(lent(&mut bytes.clone()))?.write_sector(sector, buffer)?;
     mend(bytes, medium)?;
-    let mut volume = Volume::open(lent(bytes))?;
-    let last = volume.handle().steps();
+    let mut opened = OpenArena::open(lent(bytes))?;
+    let last = opened.handle().steps();
     // Being killed keeps the stores that were made, in their order, so the order is enough there. When the power goes, a disk may
     // have written any of the stores since the last synchronising. Data words and the first three words of a half may be there or not
     // as long as the sequence word is not, for nothing reads them; so all of them are on the disk before it. The map word gives away
-    // the old block, which only a newer half in the log lets opening find, so the sequence word is on the disk before that. And the
+    // the old block, which only a newer half in the flog lets opening find, so the sequence word is on the disk before that. And the
     // last is on the disk before the command says that the sector is written.
-    volume.write_sector_by_steps(sector, buffer, |store| {
+    opened.write_sector_by_steps(sector, buffer, |store| {
         medium.store(store.offset, store.word).map_err(failed)?;
         if store.number >= last - 2 {
             medium.sync().map_err(failed)?;

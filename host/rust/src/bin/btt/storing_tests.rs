@@ -40,7 +40,7 @@ fn made() -> AlignedBytes {
 fn sector(bytes: &AlignedBytes, sector: u32) -> [u8; 512] {
     let mut bytes = bytes.clone();
     let mut buffer = [0; 512];
-    Volume::open(lent(&mut bytes)).unwrap().read_sector(sector, &mut buffer).unwrap();
+    OpenArena::open(lent(&mut bytes)).unwrap().read_sector(sector, &mut buffer).unwrap();
     buffer
 }
 

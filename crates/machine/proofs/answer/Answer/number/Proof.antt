@@ -1,7 +1,7 @@
 -- `Answer::number` meets its contract: each arm knows its variant, and `numberOf` of it computes.
 use mathlib.Core.Path.{sym, ap}
 use borrow.Author.Needs.{needs}
-use Rattle.machine.specs.Answer.{numberOf}
+use Rattle.machine.specs.state.Answer.{numberOf}
 use Rattle.machine.proofs.answer.Answer.number.Statement.{statement}
 use Rattle.machine.proofs.answer.Answer.number.Tie as tie
 

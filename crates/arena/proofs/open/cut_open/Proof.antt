@@ -1,0 +1,32 @@
+-- `arena::open::cut_open` meets its contract: what an arena by itself is told is in order.
+use mathlib.Core.Path.{ap, _∙_}
+use borrow.Author.Needs.{needs}
+use Rattle.layout.specs.declared.Told.{Told}
+use Rattle.machine.specs.calls.Opening.{cutOpenOf}
+use Rattle.machine.proofs.opening.Described.{told-alone}
+use Rattle.arena.proofs.open.cut_open.Statement.{statement}
+use Rattle.arena.proofs.open.cut_open.Tie as tie
+
+alone-requires : tie.Need-alone-requires
+alone-requires c κs = search needs
+
+judge-and-mend-requires : tie.Need-judge-and-mend-requires
+judge-and-mend-requires c κs = rw (c .before .alone .ensures) told-alone
+
+same-length : tie.Need-same-length
+same-length c = search needs
+
+same-length-2 : tie.Need-same-length-2
+same-length-2 c = search needs
+
+returns : tie.Need-returns
+returns c =
+    let at-judge-and-mend = c .before .before .before .before .before in
+    let at-alone = at-judge-and-mend .before .before in
+    let s = at-alone .before .before .before .before in
+    at-judge-and-mend .judge-and-mend .ensures .0
+    ∙ ap (λ (t : Told). cutOpenOf t (s .args .arena .now) (s .args .work .now) (s .args .k)) (at-alone .alone .ensures)
+
+pub cut-open-spec : {M : Type 1} → statement M
+cut-open-spec =
+    tie.close (tie.spec alone-requires judge-and-mend-requires same-length same-length-2 returns)

@@ -1,0 +1,87 @@
+-- Demands 2 and 3 for a host's lists: the machine's lists have them, and a host's list is the machine's.
+use mathlib.Core.Path.{_≡_, refl, sym, ap, _∙_, subst}
+use mathlib.Core.List.{List, [], _∷_}
+use Prim.Native.Nat.{ℕ}
+use Rattle.layout.specs.Told.{alone}
+use Rattle.machine.specs.calls.Opening.{figuresIn, openOf}
+use Rattle.machine.specs.calls.History.{Call, State, Event, SmallEvents, openedFrom}
+use Rattle.machine.specs.calls.Asides.{Happening, latest, latestOf, afterOne, AllHarmless}
+use Rattle.machine.specs.models.Row.{OneBuffer, firstRow}
+use Rattle.machine.specs.models.Book.{bookAfter}
+use Rattle.machine.specs.words.InBytes.{Small}
+use Rattle.machine.specs.claims.DemandTwo.{FollowsRow}
+use Rattle.machine.specs.claims.DemandThree.{Listed, AsBooked, AfterCut, Promised}
+use Rattle.machine.proofs.opening.Described.{told-alone}
+use Rattle.machine.proofs.invariant.Held.{held-open}
+use Rattle.machine.proofs.invariant.Histories.{held-small}
+use Rattle.machine.proofs.invariant.Asides.{latest-state, latest-heard}
+use Rattle.machine.proofs.row.DemandTwo.{demand-two}
+use Rattle.machine.proofs.book.DemandThree.{demand-three}
+use Rattle.btt.specs.Calls.{bttOpenOf}
+use Rattle.btt.specs.HostList.{HostState, openedHost, StandsFor, SameEvents}
+use Rattle.btt.specs.HostDemands.{HostFollowsRow, HostBooked, HostPromised, HostDemands}
+use Rattle.btt.proofs.Same.{read-same}
+use Rattle.btt.proofs.Listing.{first-same, calls-same, events-same}
+
+-- ---- demand 2: a list through the latest handle alone is a history with nothing beside
+
+plain : List Event → List Happening
+plain [] = []
+plain (e ∷ es) = latest e ∷ plain es
+
+plain-latest : (es : List Event) → latestOf (plain es) ≡ es
+unfolding plain latestOf
+plain-latest [] = refl
+plain-latest (e ∷ es) = ap (λ (ds : List Event). e ∷ ds) (plain-latest es)
+
+plain-harmless : (es : List Event) (x : State) → AllHarmless alone x (plain es)
+unfolding plain
+plain-harmless [] x = tt
+plain-harmless (e ∷ es) x = (tt, plain-harmless es (afterOne alone x (latest e)))
+
+module _ (a work : List ℕ) (es : List Event) (small : Small a) (small-events : SmallEvents es) (z : (openOf alone a work) .number ≡ 0)
+    (one : OneBuffer (figuresIn a) (firstRow (openedFrom alone a work)) es) where
+  abbrev x : State
+  x = openedFrom alone a work
+
+  follows : FollowsRow alone a work (plain es)
+  follows =
+      demand-two .follows a work (plain es) small (rw (plain-latest es) small-events) z (plain-harmless es x) (rw (plain-latest es) one)
+
+  same : SameEvents (openedHost (bttOpenOf a work)) x es
+  same =
+      events-same (openedHost (bttOpenOf a work)) x es (first-same a work small z)
+      (held-small alone told-alone x (held-open alone told-alone a work small z))
+
+  host-follows : HostFollowsRow a work es
+  host-follows =
+      let heard = rw (plain-latest es) at (latest-heard alone told-alone (plain es) x (plain-harmless es x)) in
+      let left = rw (plain-latest es) at (latest-state alone told-alone (plain es) x (plain-harmless es x)) in
+      record {
+        replies = same .replies ∙ sym heard ∙ (rw (plain-latest es) at (follows .replies));
+        reads = λ s buffer. read-same _ _ _ s buffer (same .leaves .handle)
+            ∙ rw (same .leaves .arena) (rw (left, plain-latest es) at (follows .reads s buffer));
+      }
+
+-- ---- demand 3
+
+module _ (y : HostState) (x : State) (cs : List Call) (bytes : ℕ → List ℕ) (k : StandsFor y x) (l : Listed alone x cs bytes) where
+  promised : Promised alone x cs bytes
+  promised = demand-three .promised x cs bytes l
+
+  host-booked : (p : List Call) → AsBooked alone x bytes p → HostBooked y x bytes p
+  host-booked p b =
+      let s = calls-same y x p k in
+      record { answers = s .replies ∙ b .answers; arena = λ stores m. s .leaves .arena ∙ b .arena stores m }
+
+  host-promised : HostPromised y x cs bytes
+  host-promised = record {
+    booked = λ p rest e. host-booked p (promised .booked p rest e);
+    cut-booked = λ p rest e. host-booked p (promised .cut-booked p rest e);
+    cut = λ p rest e work u.
+        subst (λ (a : List ℕ). AfterCut alone (x .arena) (x .handle) bytes a (bookAfter alone (x .arena) [] p) work)
+        (sym (calls-same y x p k .leaves .arena)) (promised .cut p rest e work u);
+  }
+
+pub host-demands : HostDemands
+host-demands = record { two = host-follows; three = host-promised }

@@ -1,0 +1,51 @@
+-- Demands 2 and 3 for lists that a host makes through the library alone.
+use mathlib.Core.Path.{_≡_}
+use mathlib.Core.List.{List, [], _++_}
+use Prim.Native.Nat.{ℕ, _≤_}
+use lib.ListN.{length}
+use Rattle.layout.specs.Told.{alone}
+use Rattle.machine.specs.state.Stores.{Store, putAll}
+use Rattle.machine.specs.calls.Opening.{figuresIn, layoutIn, openOf}
+use Rattle.machine.specs.calls.History.{Call, State, Event, SmallEvents, openedFrom}
+use Rattle.machine.specs.models.Row.{rowRead, rowAfterAll, rowReplies, OneBuffer, firstRow}
+use Rattle.machine.specs.models.Book.{bookAfter, bookReplies, kept}
+use Rattle.machine.specs.words.InBytes.{Small}
+use Rattle.machine.specs.claims.DemandThree.{SameMembers, takenApart, Listed, AfterCut}
+use Rattle.btt.specs.Calls.{bttOpenOf, bttReadOf}
+use Rattle.btt.specs.HostList.{HostState, openedHost, hostRun, hostReplies, hostRunEvents, hostReplyEvents, StandsFor}
+
+-- ---- demand 2
+
+-- what a host has after an opening and a list of calls and openings
+abbrev pub hostLeft : List ℕ → List ℕ → List Event → HostState
+hostLeft a work es = hostRunEvents (openedHost (bttOpenOf a work)) es
+
+-- the answers, the buffers and every read after them are the plain row's
+pub record HostFollowsRow (a work : List ℕ) (es : List Event) : Type 0 where
+  pub replies : hostReplyEvents (openedHost (bttOpenOf a work)) es ≡ rowReplies (figuresIn a) (firstRow (openedFrom alone a work)) es
+  pub reads : (s : ℕ) (buffer : List ℕ) → bttReadOf ((hostLeft a work es) .arena) ((hostLeft a work es) .handle) s buffer
+      ≡ rowRead (figuresIn a) (rowAfterAll (figuresIn a) (firstRow (openedFrom alone a work)) es) s buffer
+
+-- ---- demand 3
+
+-- after the calls p: the answers are the book's, and the arena is the first one with each write's first stores put in
+pub record HostBooked (y : HostState) (x : State) (bytes : ℕ → List ℕ) (p : List Call) : Type 0 where
+  pub answers : hostReplies y p ≡ bookReplies alone (x .arena) bytes [] p
+  pub arena : (stores : List Store) → SameMembers stores (kept alone (x .arena) bytes (bookAfter alone (x .arena) [] p))
+      → (hostRun y p) .arena ≡ putAll (layoutIn alone (x .arena)) stores (x .arena)
+
+-- a host's list of calls, and the power cut anywhere in it, inside a whole write too
+pub record HostPromised (y : HostState) (x : State) (cs : List Call) (bytes : ℕ → List ℕ) : Type 0 where
+  pub booked : (p rest : List Call) → p ++ rest ≡ cs → HostBooked y x bytes p
+  pub cut-booked : (p rest : List Call) → p ++ rest ≡ takenApart (layoutIn alone (x .arena)) x cs → HostBooked y x bytes p
+  pub cut : (p rest : List Call) → p ++ rest ≡ takenApart (layoutIn alone (x .arena)) x cs → (work : List ℕ)
+      → (figuresIn (x .arena)) .blocks ≤ length work
+      → AfterCut alone (x .arena) (x .handle) bytes ((hostRun y p) .arena) (bookAfter alone (x .arena) [] p) work
+
+pub record HostDemands : Type 0 where
+  -- any arena that opens, and any list in which each write is handed the same bytes throughout
+  pub two : (a work : List ℕ) (es : List Event) → Small a → SmallEvents es → (openOf alone a work) .number ≡ 0
+      → OneBuffer (figuresIn a) (firstRow (openedFrom alone a work)) es → HostFollowsRow a work es
+  -- a host whose bytes hold the handle of such an arena, all lanes idle, and a list as demand 3 has it
+  pub three : (y : HostState) (x : State) (cs : List Call) (bytes : ℕ → List ℕ) → StandsFor y x → Listed alone x cs bytes
+      → HostPromised y x cs bytes

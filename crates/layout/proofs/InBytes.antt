@@ -1,0 +1,106 @@
+-- The claims about figures: from the tests taken apart, from the sums that making rounds up, and from places in bytes.
+use mathlib.Core.Path.{_≡_, refl, ap, _∙_}
+use mathlib.Core.Bool.{true}
+use mathlib.Core.List.{List}
+use Prim.Native.Nat.{ℕ, _+_, _*_, _%_}
+use native.Mathlib.Omega.{arith}
+use lib.Dec.{eqb, leb}
+use borrow.Author.Tests.{eqb-true, leb-true, eq-eqb, le-leb}
+use Rattle.words.proofs.Bytes.{word-at, long-at}
+use Rattle.format.proofs.Tests.{and-elim}
+use Rattle.layout.specs.Figures.{
+  lengthAllowed,
+  sizesAllowed,
+  Allowed,
+  roundUp,
+  mapStart,
+  flogStart,
+  freshLength,
+  freshFigures,
+  figuresAt,
+}
+use Rattle.layout.specs.Claims.{Length, Sizes, LeastMultiple, FreshLayout, Places, FiguresFrom, AllowedClaim, FreshLayoutClaim, PlacesClaim}
+use Rattle.layout.specs.declared.Figures.{Figures}
+use Rattle.layout.proofs.Allowed.{sizes-of, of-sizes, allowed-of, of-allowed, made-allowed}
+use Rattle.layout.proofs.Offsets.{data-start, map-start, flog-start}
+
+length-is : (n : ℕ) → lengthAllowed n ≡ true → Length n
+length-is n e =
+    let p = and-elim (eqb (n % 4096) 0) _ e in
+    let q = and-elim (leb 20480 n) (leb n 16777216) (p .1) in
+    record { multiple = eqb-true _ _ (p .0); least = leb-true _ _ (q .0); most = leb-true _ _ (q .1) }
+
+is-length : (n : ℕ) → Length n → lengthAllowed n ≡ true
+is-length n l = rw (eq-eqb _ _ (l .multiple), le-leb _ _ (l .least), le-leb _ _ (l .most))
+
+sizes-are : (size sectors lanes : ℕ) → sizesAllowed size sectors lanes ≡ true → Sizes size sectors lanes
+sizes-are size sectors lanes e =
+    let h = sizes-of size sectors lanes e in
+    record { size = h .0; sectors = h .1; some-lane = h .2; few-lanes = h .3 }
+
+are-sizes : (size sectors lanes : ℕ) → Sizes size sectors lanes → sizesAllowed size sectors lanes ≡ true
+are-sizes size sectors lanes s = of-sizes size sectors lanes (s .size) (s .sectors) (s .some-lane) (s .few-lanes)
+
+pub allowed-claim : AllowedClaim
+allowed-claim =
+    record {
+      length = length-is;
+      length-back = is-length;
+      sizes = sizes-are;
+      sizes-back = are-sizes;
+      figures = allowed-of;
+      figures-back = of-allowed;
+    }
+
+least-multiple : (n : ℕ) → LeastMultiple n (roundUp n)
+least-multiple n = record { multiple = omega arith; enough = omega arith; least = omega arith }
+
+made-is : (size sectors lanes : ℕ) → FreshLayout size sectors lanes (freshFigures size sectors lanes) (freshLength size sectors lanes)
+unfolding freshFigures freshLength
+made-is size sectors lanes =
+    record {
+      size = refl;
+      sectors = refl;
+      internal = refl;
+      blocks = refl;
+      lanes = refl;
+      data-start = refl;
+      map-start = least-multiple (4096 + (sectors + lanes) * size);
+      flog-start = least-multiple (mapStart size sectors lanes + 4 * sectors);
+      copy-start = least-multiple (flogStart size sectors lanes + 64 * lanes);
+      end = refl;
+    }
+
+pub made-claim : FreshLayoutClaim
+made-claim =
+    record {
+      rounded = least-multiple;
+      made = made-is;
+      allowed = λ size sectors lanes s. made-allowed size sectors lanes (are-sizes size sectors lanes s);
+    }
+
+places-of : (f : Figures) (n : ℕ) → Allowed f n → Places f
+places-of f n ok =
+    record {
+      in-data = data-start 16 f n ok;
+      in-map = map-start 16 f n ok;
+      in-flog = λ l h k. flog-start 16 f n ok refl l h k ∙ ap (λ (x : ℕ). f .flogoff + 64 * l + x + 4 * k) (omega arith);
+    }
+
+figures-from : (b : List ℕ) (i j : ℕ) → FiguresFrom b (4 * i) (4 * j) (figuresAt b i j)
+unfolding figuresAt
+figures-from b i j =
+    record {
+      size = word-at b i (4 * i) refl;
+      sectors = word-at b (i + 1) (4 * i + 4) (omega arith);
+      internal = word-at b (i + 2) (4 * i + 8) (omega arith);
+      blocks = word-at b (i + 3) (4 * i + 12) (omega arith);
+      lanes = word-at b (i + 4) (4 * i + 16) (omega arith);
+      data-start = long-at b j (4 * j) refl;
+      map-start = long-at b (j + 2) (4 * j + 8) (omega arith);
+      flog-start = long-at b (j + 4) (4 * j + 16) (omega arith);
+      copy-start = long-at b (j + 6) (4 * j + 24) (omega arith);
+    }
+
+pub places-claim : PlacesClaim
+places-claim = record { places = places-of; by-itself = (refl, refl); figures = figures-from }

@@ -1,0 +1,97 @@
+-- The figures of an arena said a second time: in bytes, by inequalities, and row by row of document 01's table.
+use mathlib.Core.Path.{_≡_}
+use mathlib.Core.Logic.{_⊎_}
+use mathlib.Core.Bool.{true}
+use mathlib.Core.List.{List}
+use Prim.Native.Nat.{ℕ, _+_, _*_, _%_, _≤_, _<_}
+use Rattle.words.specs.Bytes.{byteWord, byteLong}
+use Rattle.layout.specs.Figures.{
+  lengthAllowed,
+  sizesAllowed,
+  figuresAllowed,
+  Allowed,
+  roundUp,
+  freshLength,
+  freshFigures,
+  figuresAt,
+}
+use Rattle.layout.specs.Place.{layoutOf, at, inData, inMap, inFlog}
+use Rattle.layout.specs.Told.{alone}
+use Rattle.layout.specs.declared.Figures.{Figures}
+
+-- FORMAT 2.2: a multiple of 4,096, from 20,480 to 16,777,216
+pub record Length (n : ℕ) : Type 0 where
+  pub multiple : n % 4096 ≡ 0
+  pub least : 20480 ≤ n
+  pub most : n ≤ 16777216
+
+-- FORMAT 3.1: the figures that making is asked for
+pub record Sizes (S E N : ℕ) : Type 0 where
+  pub size : (S ≡ 512) ⊎ (S ≡ 4096)
+  pub sectors : N ≤ E
+  pub some-lane : 1 ≤ N
+  pub few-lanes : N ≤ 16
+
+-- m is the least multiple of 4,096 that is n or more
+pub record LeastMultiple (n m : ℕ) : Type 0 where
+  pub multiple : m % 4096 ≡ 0
+  pub enough : n ≤ m
+  pub least : m < n + 4096
+
+-- FORMAT 6: the figures that making works out, with the arena's length: each part at the least multiple of 4,096 that fits
+pub record FreshLayout (S E N : ℕ) (f : Figures) (length : ℕ) : Type 0 where
+  pub size : f .size ≡ S
+  pub sectors : f .sectors ≡ E
+  pub internal : f .internal ≡ S
+  pub blocks : f .blocks ≡ E + N
+  pub lanes : f .lanes ≡ N
+  pub data-start : f .dataoff ≡ 4096
+  pub map-start : LeastMultiple (4096 + (E + N) * S) (f .mapoff)
+  pub flog-start : LeastMultiple (f .mapoff + 4 * E) (f .flogoff)
+  pub copy-start : LeastMultiple (f .flogoff + 64 * N) (f .copyoff)
+  pub end : length ≡ f .copyoff + 4096
+
+-- where an arena with those figures has its words, in bytes
+pub record Places (f : Figures) : Type 0 where
+  -- word k of block b
+  pub in-data : (b k : ℕ) → 4 * at (layoutOf 16 f) (inData b k) ≡ f .dataoff + b * f .internal + 4 * k
+  -- the map word of sector s
+  pub in-map : (s : ℕ) → 4 * at (layoutOf 16 f) (inMap s) ≡ f .mapoff + 4 * s
+  -- word k of half h of lane l
+  pub in-flog : (l h k : ℕ) → 4 * at (layoutOf 16 f) (inFlog l h k) ≡ f .flogoff + 64 * l + 16 * h + 4 * k
+
+-- five figures from byte o on, and four starts from byte q on
+pub record FiguresFrom (b : List ℕ) (o q : ℕ) (f : Figures) : Type 0 where
+  pub size : f .size ≡ byteWord b o
+  pub sectors : f .sectors ≡ byteWord b (o + 4)
+  pub internal : f .internal ≡ byteWord b (o + 8)
+  pub blocks : f .blocks ≡ byteWord b (o + 12)
+  pub lanes : f .lanes ≡ byteWord b (o + 16)
+  pub data-start : f .dataoff ≡ byteLong b q
+  pub map-start : f .mapoff ≡ byteLong b (q + 8)
+  pub flog-start : f .flogoff ≡ byteLong b (q + 16)
+  pub copy-start : f .copyoff ≡ byteLong b (q + 24)
+
+-- FORMAT 2.2, 3.1 and 3.2: what the tests of the code let pass
+pub record AllowedClaim : Type 0 where
+  pub length : (n : ℕ) → lengthAllowed n ≡ true → Length n
+  pub length-back : (n : ℕ) → Length n → lengthAllowed n ≡ true
+  pub sizes : (S E N : ℕ) → sizesAllowed S E N ≡ true → Sizes S E N
+  pub sizes-back : (S E N : ℕ) → Sizes S E N → sizesAllowed S E N ≡ true
+  -- row by row of the table
+  pub figures : (f : Figures) (n : ℕ) → figuresAllowed f n ≡ true → Allowed f n
+  pub figures-back : (f : Figures) (n : ℕ) → Allowed f n → figuresAllowed f n ≡ true
+
+-- FORMAT 6: what making works out
+pub record FreshLayoutClaim : Type 0 where
+  pub rounded : (n : ℕ) → LeastMultiple n (roundUp n)
+  pub made : (S E N : ℕ) → FreshLayout S E N (freshFigures S E N) (freshLength S E N)
+  -- sizes that are allowed make figures that are
+  pub allowed : (S E N : ℕ) → Sizes S E N → Allowed (freshFigures S E N) (freshLength S E N)
+
+-- FORMAT 2.1 and 5.1: where the words of an arena stand
+pub record PlacesClaim : Type 0 where
+  pub places : (f : Figures) (n : ℕ) → Allowed f n → Places f
+  -- an arena opened by itself: no arena follows, and a lane's halves start 16 bytes apart
+  pub by-itself : (alone .next ≡ 0) × (alone .distance ≡ 16)
+  pub figures : (b : List ℕ) (i j : ℕ) → FiguresFrom b (4 * i) (4 * j) (figuresAt b i j)

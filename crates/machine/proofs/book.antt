@@ -1,0 +1,15 @@
+pub mod AfterCut
+pub mod DemandThree
+pub mod Entries
+pub mod FirstArena
+pub mod Lanes
+pub mod LastWords
+pub mod Next
+pub mod OneByOne
+pub mod Places
+pub mod Reads
+pub mod Sim
+pub mod SimCalls
+pub mod SimRun
+pub mod Stores
+pub mod TakenApart

@@ -1,0 +1,82 @@
+-- What an accepted call passed, each rule by name: the order of the rules matters here and nowhere after.
+use mathlib.Core.Path.{_≡_}
+use mathlib.Core.Bool.{true, false}
+use mathlib.Core.List.{List}
+use Prim.Native.Nat.{ℕ, _<_}
+use lib.Dec.{eqb}
+use lib.ListN.{length}
+use borrow.Author.Tests.{eqb-true, leb-false, not-false}
+use Rattle.format.specs.MapWord.{flagsOf, readingOf, badWord}
+use Rattle.machine.specs.Rules.{answer}
+use Rattle.machine.specs.state.Lane.{isBusy}
+use Rattle.machine.specs.state.Handle.{Handle, laneAt, laidOut, handleAllowed}
+use Rattle.machine.specs.state.Flog.{mapWord}
+use Rattle.machine.specs.calls.Order.{read, start, step, write}
+use Rattle.machine.specs.calls.Judging.{inFlight, callNumber}
+use Rattle.machine.proofs.rules.Running.{call-passed}
+
+module _ (a : List ℕ) (h : Handle) where
+  pub record ReadFound (s : ℕ) (buffer : List ℕ) : Type 0 where
+    pub handle : handleAllowed h (length a) ≡ true
+    pub sector : s < h .figures .sectors
+    pub size : length buffer ≡ h .figures .size
+    pub word : badWord (h .figures .blocks) (mapWord (laidOut h) a s) ≡ false
+    pub not-bad : eqb (readingOf (flagsOf (mapWord (laidOut h) a s))) 1 ≡ false
+
+  pub read-found : (s : ℕ) (buffer : List ℕ) → callNumber a h (read s buffer) ≡ 0 → ReadFound s buffer
+  read-found s buffer e =
+      let p = call-passed a h (read s buffer) e in
+      record {
+        handle = not-false _ (p .0);
+        sector = leb-false _ _ (p .1 .0);
+        size = eqb-true _ _ (not-false _ (p .1 .1 .0));
+        word = p .1 .1 .1 .0;
+        not-bad = p .1 .1 .1 .1 .0;
+      }
+
+  pub record StartFound (l s : ℕ) : Type 0 where
+    pub handle : handleAllowed h (length a) ≡ true
+    pub lane : l < h .figures .lanes
+    pub idle : isBusy (laneAt (h .lanes) l) ≡ false
+    pub sector : s < h .figures .sectors
+    pub free : inFlight (h .lanes) (h .figures .lanes) s ≡ false
+    pub word : badWord (h .figures .blocks) (mapWord (laidOut h) a s) ≡ false
+
+  pub start-found : (l s : ℕ) → callNumber a h (start l s) ≡ 0 → StartFound l s
+  start-found l s e =
+      let p = call-passed a h (start l s) e in
+      record {
+        handle = not-false _ (p .0);
+        lane = leb-false _ _ (p .1 .0);
+        idle = p .1 .1 .0;
+        sector = leb-false _ _ (p .1 .1 .1 .0);
+        free = p .1 .1 .1 .1 .0;
+        word = p .1 .1 .1 .1 .1 .0;
+      }
+
+  pub record StepFound (l : ℕ) (buffer : List ℕ) : Type 0 where
+    pub handle : handleAllowed h (length a) ≡ true
+    pub lane : l < h .figures .lanes
+    pub busy : isBusy (laneAt (h .lanes) l) ≡ true
+    pub size : length buffer ≡ h .figures .size
+
+  pub step-found : (l : ℕ) (buffer : List ℕ) → callNumber a h (step l buffer) ≡ 0 → StepFound l buffer
+  step-found l buffer e =
+      let p = call-passed a h (step l buffer) e in
+      record {
+        handle = not-false _ (p .0);
+        lane = leb-false _ _ (p .1 .0);
+        busy = not-false _ (p .1 .1 .0);
+        size = eqb-true _ _ (not-false _ (p .1 .1 .1 .0));
+      }
+
+  -- an accepted whole write would be accepted as a start
+  pub record WriteFound (l s : ℕ) (buffer : List ℕ) : Type 0 where
+    pub start : callNumber a h (start l s) ≡ 0
+    pub size : length buffer ≡ h .figures .size
+
+  pub write-found : (l s : ℕ) (buffer : List ℕ) → callNumber a h (write l s buffer) ≡ 0 → WriteFound l s buffer
+  unfolding callNumber answer
+  write-found l s buffer e =
+      let size = call-passed a h (write l s buffer) e .1 .1 .1 .1 .0 in
+      record { start = rw size at e; size = eqb-true _ _ (not-false _ size) }

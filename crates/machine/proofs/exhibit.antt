@@ -1,0 +1,4 @@
+pub mod Book
+pub mod LentBytes
+pub mod Premise
+pub mod Run

@@ -1,0 +1,290 @@
+-- The run of `Exhibited`: any arena with its figures that opens and changes nothing follows the book, and the made arena is one.
+use mathlib.Core.Path.{_≡_, refl, sym, ap, _∙_, subst}
+use mathlib.Core.Logic.{_≢_}
+use mathlib.Core.List.{List, [], _∷_, _++_, map, Memᴰ·of-map}
+use Prim.Native.Nat.{ℕ, _+_, _≤_, _<_}
+use native.Mathlib.Omega.{arith}
+use lib.ListN.{length, replicate, length-replicate}
+use Rattle.format.proofs.Below.{below-replicate}
+use Rattle.layout.specs.Figures.{freshLength, freshFigures}
+use Rattle.layout.specs.Place.{layoutOf}
+use Rattle.machine.specs.calls.Making.{makeNumber, makeOf}
+use Rattle.machine.specs.Rules.{answer}
+use Rattle.machine.specs.state.Handle.{noHandle}
+use Rattle.machine.specs.state.Flog.{mapWord}
+use Rattle.machine.specs.calls.Opening.{layoutIn, figuresIn, openOf, cutOpenOf}
+use Rattle.machine.specs.calls.Writing.{stepOf}
+use Rattle.machine.specs.words.InBytes.{Small}
+use Rattle.machine.specs.claims.Making.{FreshArena}
+use Rattle.machine.specs.calls.History.{
+  runs,
+  Call,
+  read,
+  start,
+  step,
+  write,
+  State,
+  run,
+  reply,
+  afterEvent,
+  SmallCall,
+  SmallCalls,
+  Event,
+  called,
+  opened,
+  openedFrom,
+  SmallEvent,
+  SmallEvents,
+}
+use Rattle.machine.specs.calls.Asides.{Happening, latest, aside, shortened, latestOf, afterOne, AllHarmless}
+use Rattle.machine.specs.models.Row.{OneBuffer, firstRow}
+use Rattle.machine.specs.claims.DemandTwo.{AllIdle, leaves}
+use Rattle.machine.specs.models.Book.{Entry, bookAfter, lastWords}
+use Rattle.machine.specs.claims.DemandThree.{lends, Ready, Listed}
+use Rattle.machine.specs.claims.Exhibit.{exhibitWanted, exhibitFound, exhibitWork, exhibitBytes, Exhibited}
+use Rattle.machine.proofs.opening.Opens.{open-zero, opened-idle}
+use Rattle.machine.proofs.calls.Accepted.{step-found}
+use Rattle.machine.proofs.calls.Running.{handle-ok, running-claim}
+use Rattle.machine.proofs.opening.Opening.{opening-claim}
+use Rattle.machine.proofs.stores.Members.{Each, each-more, each-one, each-append, each-replicate}
+use Rattle.machine.proofs.making.Making.{made-small, map-words, making-claim}
+use Rattle.machine.proofs.invariant.Held.{held-open}
+use Rattle.machine.proofs.invariant.Histories.{HeldIn}
+use Rattle.machine.proofs.book.Entries.{entryOf}
+use Rattle.machine.proofs.book.FirstArena.{FirstArena, first-arena}
+use Rattle.machine.proofs.book.Sim.{Sim, number-of}
+use Rattle.machine.proofs.book.SimRun.{sim-start}
+use Rattle.machine.proofs.book.AfterCut.{after-cut}
+use Rattle.machine.proofs.exhibit.Premise.{Goes, orderly-premise, orderly-sim}
+use Rattle.machine.proofs.exhibit.LentBytes.{LendsIn, lent-one}
+use Rattle.machine.proofs.exhibit.Book.{together, further, onward, both, goes-finished, goes-together, then-refused, goes-all, one-last}
+use Rattle.layout.specs.Told.{alone}
+use Rattle.machine.proofs.opening.Described.{told-alone}
+
+-- ---- an arena that opens and changes nothing
+
+-- such an arena, and the bytes that the calls lend
+record Given (a work : List ℕ) (bytes : ℕ → List ℕ) (buffer : List ℕ) : Type 0 where
+  small : Small a
+  opens : (openOf alone a work) .number ≡ 0
+  same : (openOf alone a work) .arena ≡ a
+  figures : figuresIn a ≡ freshFigures 512 60 4
+  unwritten : (s : ℕ) → s < 60 → mapWord (layoutIn alone a) a s ≡ 0
+  room : 64 ≤ length work
+  small-work : Small work
+  size : (l : ℕ) → length (bytes l) ≡ 512
+  small-bytes : (l : ℕ) → l < 3 → Small (bytes l)
+  size-buffer : length buffer ≡ 512
+  small-buffer : Small buffer
+
+module _ (a work : List ℕ) (bytes : ℕ → List ℕ) (buffer : List ℕ) (g : Given a work bytes buffer) where
+  abbrev y : State
+  y = openedFrom alone a work
+
+  abbrev calls : List Call
+  calls = together bytes ++ further bytes buffer
+
+  held : HeldIn alone y
+  held = held-open alone told-alone a work (g .small) (g .opens)
+
+  idle : AllIdle (y .handle)
+  idle = opened-idle alone told-alone a work (g .opens)
+
+  figures : figuresIn (y .arena) ≡ freshFigures 512 60 4
+  figures = ap figuresIn (g .same) ∙ g .figures
+
+  unwritten : (s : ℕ) → s < 60 → mapWord (layoutIn alone (y .arena)) (y .arena) s ≡ 0
+  unwritten s u = rw (g .same) (g .unwritten s u)
+
+  first : FirstArena alone (y .arena)
+  first = first-arena alone told-alone (y .arena) (y .handle) held idle
+
+  sim : Sim alone told-alone (y .arena) bytes [] y
+  sim = sim-start alone told-alone (y .arena) (y .handle) bytes held idle
+
+  -- a call that lends bytes, and its lane's
+  abbrev Fit : Call → Type 0
+  Fit c = SmallCall c × lends bytes c
+
+  each-together : Each Fit (together bytes)
+  each-together =
+      each-more Fit (start 0 7) _ (tt, tt) (each-more Fit (start 1 8) _ (tt, tt)
+      (each-more Fit (step 0 (bytes 0)) _ fit-0 (each-more Fit (step 1 (bytes 1)) _ (g .small-bytes 1 (omega arith), refl)
+      (each-replicate Fit 131 _ fit-0))))
+    where
+      fit-0 : Fit (step 0 (bytes 0))
+      fit-0 = (g .small-bytes 0 (omega arith), refl)
+
+  each : Each Fit calls
+  each = each-append Fit (together bytes) (further bytes buffer) each-together
+      (each-more Fit (start 0 9) _ (tt, tt) (each-more Fit (read 7 buffer) _ (g .small-buffer, tt)
+      (each-one Fit (write 2 10 (bytes 2)) (g .small-bytes 2 (omega arith), refl))))
+
+  each-finished : Each Fit (together bytes ++ onward bytes)
+  each-finished = each-append Fit (together bytes) (onward bytes) each-together
+      (each-more Fit (step 0 (bytes 0)) _ (g .small-bytes 0 (omega arith), refl)
+      (each-replicate Fit 132 _ (g .small-bytes 1 (omega arith), refl)))
+
+  smalls : SmallCalls calls
+  smalls c m = each c m .0
+
+  ran : Goes (y .arena) bytes [] calls (entryOf 2 10 133 ∷ both 132 1)
+  ran = goes-all (y .arena) first figures unwritten bytes (g .size) buffer (g .size-buffer)
+
+  ran-finished : Goes (y .arena) bytes [] (together bytes ++ onward bytes) (both 133 133)
+  ran-finished = goes-finished (y .arena) first figures unwritten bytes (g .size)
+
+  -- a read, and an opening that changes nothing
+  before : List Happening
+  before = latest (called (read 7 buffer)) ∷ latest (opened work) ∷ []
+
+  reached : y ≡ leaves alone a work before
+  unfolding runs before
+  reached =
+      let k = opening-claim alone told-alone .again a work work (g .small) (g .opens) (unfold layoutOf in (rw (g .figures) (unfold freshFigures in (g .room)))) in
+      rw (k .number) (λ j. record { arena = sym (k .arena) j; handle = sym (k .handle) j })
+
+  ready : Ready alone y
+  ready = record {
+    found = a;
+    work = work;
+    history = before;
+    small = g .small;
+    small-history = unfold before latestOf in
+        (each-more SmallEvent (called (read 7 buffer)) _ (g .small-buffer) (each-one SmallEvent (opened work) (g .small-work)));
+    opens = g .opens;
+    harmless = unfold before in (tt, (tt, tt));
+    reached = reached;
+    idle = idle;
+  }
+
+  -- a list of calls that lend their bytes, and go as the book says
+  listed-as : (cs : List Call) (b : List Entry) → Each Fit cs → Goes (y .arena) bytes [] cs b → Listed alone y cs bytes
+  listed-as cs b fit go =
+      let small : SmallCalls cs = λ c m. fit c m .0 in
+      let p = orderly-premise (y .arena) bytes first cs [] y sim small (go .orderly) in
+      record { ready = ready; small = small; differ = p .1; same-bytes = p .0 }
+
+  listed : Listed alone y calls bytes
+  listed = listed-as calls _ each ran
+
+  finished : Listed alone y (together bytes ++ onward bytes) bytes
+  finished = listed-as (together bytes ++ onward bytes) _ each-finished ran-finished
+
+  some-history : length (listed .ready .history) ≡ 2
+  unfolding listed listed-as ready before
+  some-history = refl
+
+  -- the run as a history
+  abbrev events : List Event
+  events = map called calls ++ (opened work ∷ [])
+
+  abbrev history : List Happening
+  history = aside noHandle (step 0 (bytes 0)) ∷ shortened [] 1 ∷ map latest events
+
+  latest-all : (es : List Event) → latestOf (map latest es) ≡ es
+  unfolding latestOf
+  latest-all [] = refl
+  latest-all (e ∷ es) = ap (λ (ds : List Event). e ∷ ds) (latest-all es)
+
+  harmless-all : (es : List Event) (x : State) → AllHarmless alone x (map latest es)
+  harmless-all [] x = tt
+  harmless-all (e ∷ es) x = (tt, harmless-all es (afterEvent alone x e))
+
+  -- an empty handle is refused with 16, and no room with 5
+  harmless : AllHarmless alone y history
+  harmless = (
+    refused-step,
+    (
+      rw (running-claim .step-refused (y .arena) noHandle 0 (bytes 0) refused-step .arena) refused-cut,
+      harmless-all events (afterOne alone (afterOne alone y (aside noHandle (step 0 (bytes 0)))) (shortened [] 1)),
+    ),
+  )
+    where
+      refused-step : (stepOf (y .arena) noHandle 0 (bytes 0)) .number ≢ 0
+      refused-step e =
+          let k = handle-ok noHandle (length (y .arena)) (step-found (y .arena) noHandle 0 (bytes 0) (unfold stepOf in e) .handle) in
+          omega (arith, k .match, k .size .least)
+
+      refused-cut : (cutOpenOf alone (y .arena) [] 1) .number ≢ 0
+      refused-cut e =
+          let z = opening-claim alone told-alone .cut (y .arena) [] 1 .number in
+          let few = open-zero alone told-alone (y .arena) 0 (unfold openOf in (sym z ∙ e)) .1 in
+          unfold layoutOf freshFigures in (omega (arith, rw figures at few))
+
+  small-events : SmallEvents (latestOf history)
+  unfolding latestOf
+  small-events = rw (latest-all (map called calls ++ (opened work ∷ []))) (each-append SmallEvent (map called calls) (opened work ∷ [])
+      (λ e m. let r = Memᴰ·of-map called calls m in rw (← r .2) (smalls (r .0) (r .1))) (each-one SmallEvent (opened work) (g .small-work)))
+
+  one-buffer : OneBuffer (figuresIn a) (firstRow y) (latestOf history)
+  unfolding latestOf
+  one-buffer = subst (OneBuffer (figuresIn a) (firstRow y)) (sym (latest-all events)) (lent-one bytes (figuresIn a) _ (firstRow y)
+      (each-append (LendsIn bytes) (map called calls) (opened work ∷ [])
+      (λ e m. let r = Memᴰ·of-map called calls m in rw (← r .2) (each (r .0) (r .1) .1)) (each-one (LendsIn bytes) (opened work) tt))
+      (λ l. tt))
+
+  refused : (reply (run y (together bytes)) (start 0 9)) .number ≡ 12
+  refused =
+      let t = goes-together (y .arena) first figures unwritten bytes (g .size) in
+      let z = orderly-sim (y .arena) bytes first (together bytes) [] y sim (λ c m. each-together c m .0) (t .orderly) in
+      number-of alone told-alone (y .arena) bytes first _ _ z (start 0 9) ∙ rw (t .book) (then-refused (y .arena) first figures unwritten bytes (g .size))
+
+  tallies : bookAfter alone (y .arena) [] calls ≡ entryOf 2 10 133 ∷ both 132 1
+  tallies = ran .book
+
+  mended : (openOf alone ((run y calls) .arena) work) .mended ≡ 1
+  unfolding freshFigures
+  mended =
+      let z = orderly-sim (y .arena) bytes first calls [] y sim smalls (ran .orderly) in
+      after-cut alone told-alone (y .arena) bytes first _ _ z (y .handle) held work (rw figures (g .room)) .mended
+      ∙ ap (λ (b : List Entry). length (lastWords alone (y .arena) b)) (ran .book) ∙ one-last (y .arena) first figures unwritten bytes (g .size)
+
+-- ---- the made arena
+
+order-number : makeNumber exhibitWanted 49152 ≡ 0
+unfolding makeNumber freshLength answer
+order-number = refl
+
+zeroes : (n : ℕ) → Small (replicate n 0)
+zeroes n = below-replicate 256 n 0 (omega arith)
+
+number : (makeOf exhibitWanted (replicate 49152 0)) .number ≡ 0
+unfolding makeOf
+number = ap (makeNumber exhibitWanted) (length-replicate {A = ℕ} 49152 0) ∙ order-number
+
+pub made : FreshArena exhibitWanted (replicate 49152 0)
+made = making-claim .made exhibitWanted (replicate 49152 0) (zeroes 49152) (zeroes 16) (zeroes 16) number
+
+given : Given exhibitFound exhibitWork exhibitBytes (replicate 512 0)
+given =
+    let u : 64 ≤ length exhibitWork = omega (arith, length-replicate {A = ℕ} 64 0) in
+    record {
+      small = made-small exhibitWanted (replicate 49152 0) (zeroes 49152) (zeroes 16) (zeroes 16) number;
+      opens = made .number exhibitWork u;
+      same = made .arena exhibitWork;
+      figures = made .figures;
+      unwritten = map-words exhibitWanted (replicate 49152 0) (zeroes 49152) (zeroes 16) (zeroes 16) number;
+      room = u;
+      small-work = zeroes 64;
+      size = λ l. length-replicate {A = ℕ} 512 (l + 1);
+      small-bytes = λ l v. below-replicate 256 512 (l + 1) (omega arith);
+      size-buffer = length-replicate {A = ℕ} 512 0;
+      small-buffer = zeroes 512;
+    }
+
+pub exhibited : Exhibited
+exhibited = record {
+  small = given .small;
+  small-events = small-events exhibitFound exhibitWork exhibitBytes (replicate 512 0) given;
+  opens = given .opens;
+  one-buffer = one-buffer exhibitFound exhibitWork exhibitBytes (replicate 512 0) given;
+  harmless = harmless exhibitFound exhibitWork exhibitBytes (replicate 512 0) given;
+  listed = listed exhibitFound exhibitWork exhibitBytes (replicate 512 0) given;
+  some-history = some-history exhibitFound exhibitWork exhibitBytes (replicate 512 0) given;
+  finished = finished exhibitFound exhibitWork exhibitBytes (replicate 512 0) given;
+  refused = refused exhibitFound exhibitWork exhibitBytes (replicate 512 0) given;
+  tallies = tallies exhibitFound exhibitWork exhibitBytes (replicate 512 0) given;
+  all-finished = ran-finished exhibitFound exhibitWork exhibitBytes (replicate 512 0) given .book;
+  mended = mended exhibitFound exhibitWork exhibitBytes (replicate 512 0) given;
+}

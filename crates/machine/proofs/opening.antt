@@ -1,0 +1,16 @@
+pub mod Answers
+pub mod Cuts
+pub mod Described
+pub mod Ends
+pub mod Found
+pub mod Ghosts
+pub mod InBytes
+pub mod Consistent
+pub mod Kept
+pub mod Mends
+pub mod Opening
+pub mod Opens
+pub mod Reflect
+pub mod Settled
+pub mod Spare
+pub mod MendedMap

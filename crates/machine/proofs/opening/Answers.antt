@@ -1,0 +1,182 @@
+-- Opening's answer by its line of the table, rule by rule, each where those before it passed; and a valid arena is one that opens.
+use mathlib.Core.Path.{_≡_, sym, _∙_}
+use mathlib.Core.List.{List}
+use mathlib.Core.Bool.{true, false}
+use Prim.Native.Nat.{ℕ, _<_}
+use native.Mathlib.Omega.{arith}
+use lib.ListN.{length}
+use borrow.Author.Tests.{ne-eqb, ltb-true, lt-ltb, not-true, not-false}
+use Rattle.layout.specs.Figures.{lengthAllowed}
+use Rattle.format.specs.MapWord.{badWord}
+use Rattle.infoblock.specs.Info.{infoBlockOf}
+use Rattle.format.proofs.Tests.{true-false, by-bool, every-intro, every-false, some-intro, some-true}
+use Rattle.machine.specs.state.Flog.{mapWord, mapBlock}
+use Rattle.machine.specs.calls.Opening.{
+  OpenRule,
+  wrongLength,
+  noInfoBlock,
+  forbiddenFigure,
+  flagsSet,
+  shortWork,
+  lostLane,
+  badWords,
+  notValid,
+  numberOpen,
+  orderOpen,
+  testsOpen,
+  layoutIn,
+  laneReadable,
+  openNumber,
+  openOf,
+  lanesLost,
+  wordBad,
+  unsettled,
+}
+use Rattle.machine.specs.words.InBytes.{Small}
+use Rattle.machine.specs.words.Valid.{Readable, BadWord, Settled, Valid, HoldsOpen, AnswersOpen}
+use Rattle.machine.specs.claims.Opening.{OpeningAnswers}
+use Rattle.machine.proofs.rules.Rules.{first-in, asked}
+use Rattle.machine.proofs.opening.Mends.{readable-of, word-in}
+use Rattle.machine.proofs.opening.Described.{Described, described-layout, described-arena}
+use Rattle.machine.proofs.opening.Settled.{settled-of, of-settled}
+use Rattle.machine.proofs.opening.Opens.{Opens, open-zero, zero-open, lanes-pass, words-pass}
+use Rattle.machine.proofs.opening.Reflect.{
+  length-ok,
+  ok-length,
+  info-ok,
+  ok-info,
+  flags-ok,
+  ok-flags,
+  block-small,
+  ok-readable,
+  bad-ok,
+  ok-bad,
+  none-sound,
+  some-sound,
+  counts-sound,
+}
+use Rattle.layout.specs.declared.Told.{Told}
+use Rattle.machine.specs.state.Handle.{ToldOk}
+
+module _ (τ : Told) (told : ToldOk τ) where
+  module _ (a : List ℕ) (small : Small a) where
+    lanes-in : lanesLost (layoutIn τ a) a ≡ false → (l : ℕ) → l < (layoutIn τ a) .N → laneReadable (layoutIn τ a) a l ≡ true
+    lanes-in = lanes-pass (layoutIn τ a) a
+
+    words-in : Described τ a → wordBad (layoutIn τ a) a ≡ false → (s : ℕ) → s < (layoutIn τ a) .E → mapBlock (layoutIn τ a) a s < (layoutIn τ a) .I
+    words-in d e s u = word-in (layoutIn τ a) (described-layout τ told a d) a s u (words-pass (layoutIn τ a) a e s u)
+
+    lane-lost : lanesLost (layoutIn τ a) a ≡ true → (l : ℕ) × (l < (layoutIn τ a) .N) × (Readable (layoutIn τ a) a l → ⊥)
+    lane-lost e =
+        let w = every-false _ _ (not-true _ e) in
+        (w .0, w .1, λ r. true-false (sym (ok-readable (layoutIn τ a) a (w .0) r) ∙ w .2))
+
+    word-bad : wordBad (layoutIn τ a) a ≡ true → (s : ℕ) × (s < (layoutIn τ a) .E) × BadWord ((layoutIn τ a) .I) (mapWord (layoutIn τ a) a s)
+    word-bad e = let w = some-true _ _ e in (w .0, w .1, bad-ok _ _ (w .2))
+
+    settled-yes : Described τ a → lanesLost (layoutIn τ a) a ≡ false → wordBad (layoutIn τ a) a ≡ false → unsettled (layoutIn τ a) a ≡ false
+        → Settled (layoutIn τ a) a
+    settled-yes d e f = settled-of (layoutIn τ a) (described-layout τ told a d) a (described-arena τ told a d small) (lanes-in e) (words-in d f)
+
+    unsettled-no : Described τ a → lanesLost (layoutIn τ a) a ≡ false → wordBad (layoutIn τ a) a ≡ false → Settled (layoutIn τ a) a
+        → unsettled (layoutIn τ a) a ≡ false
+    unsettled-no d e f = of-settled (layoutIn τ a) (described-layout τ told a d) a (described-arena τ told a d small) (lanes-in e) (words-in d f)
+
+    -- what each rule needs of those before it
+    needs : OpenRule → Type 0
+    needs wrongLength = Unit {0}
+    needs noInfoBlock = lengthAllowed (length a) ≡ true
+    needs forbiddenFigure = Unit {0}
+    needs flagsSet = Unit {0}
+    needs shortWork = Unit {0}
+    needs lostLane = Unit {0}
+    needs badWords = Unit {0}
+    needs notValid = Described τ a × (lanesLost (layoutIn τ a) a ≡ false) × (wordBad (layoutIn τ a) a ≡ false)
+
+    tells : (room : ℕ) (r : OpenRule) → needs r → (testsOpen τ a room r ≡ true → HoldsOpen τ a room r) × (HoldsOpen τ a room r → testsOpen τ a room r ≡ true)
+    unfolding needs
+    tells room wrongLength u = asked (length-ok (length a)) (ok-length (length a))
+    tells room noInfoBlock u = (none-sound a small u, λ f. some-sound a small u (f .0) (f .1))
+    tells room forbiddenFigure u = asked (info-ok τ (infoBlockOf a) (length a) (block-small a small)) (ok-info τ (infoBlockOf a) (length a) (block-small a small))
+    tells room flagsSet u = asked (flags-ok (infoBlockOf a)) (ok-flags (infoBlockOf a))
+    tells room shortWork u = (ltb-true _ _, lt-ltb _ _)
+    tells room lostLane u = (
+      lane-lost,
+      λ f. by-bool (lanesLost (layoutIn τ a) a) _ (λ t. t)
+          (λ t. absurd (f .2 (readable-of (layoutIn τ a) a (f .0) (lanes-in t (f .0) (f .1))))),
+    )
+    tells room badWords u = (
+      word-bad,
+      λ f. by-bool (wordBad (layoutIn τ a) a) _ (λ t. t)
+          (λ t. true-false (sym (ok-bad _ _ (f .2)) ∙ words-pass (layoutIn τ a) a t (f .0) (f .1))),
+    )
+    tells room notValid u = (
+      λ e s. true-false (sym e ∙ unsettled-no (u .0) (u .1) (u .2) s),
+      λ f. by-bool (unsettled (layoutIn τ a) a) _ (λ t. t) (λ t. absurd (f (settled-yes (u .0) (u .1) (u .2) t))),
+    )
+
+    pub answers : (room : ℕ) → AnswersOpen τ a room (openNumber τ a room)
+    unfolding openNumber needs
+    answers room = first-in numberOpen needs (testsOpen τ a room) (HoldsOpen τ a room) (tells room) orderOpen (
+      tt,
+      λ p1. (
+        not-false _ p1,
+        λ p2. (
+          tt,
+          λ p3. (
+            tt,
+            λ p4. (
+              tt,
+              λ p5. (
+                tt,
+                λ p6. (
+                  tt,
+                  λ p7.
+                      ((record { size = not-false _ p1; block = p2; allowed = not-false _ p3; flags = not-false _ p4 }, p6, p7), λ _. tt),
+                ),
+              ),
+            ),
+          ),
+        ),
+      ),
+    )
+
+    opens-valid : Opens τ a → Valid τ a
+    opens-valid o =
+        let d = o .info in
+        record {
+          size = length-ok (length a) (d .size);
+          info = counts-sound a small (d .size) (d .block);
+          figures = info-ok τ (infoBlockOf a) (length a) (block-small a small) (d .allowed);
+          flags = flags-ok (infoBlockOf a) (d .flags);
+          lanes = λ l u. readable-of (layoutIn τ a) a l (lanes-in (o .lanes) l u);
+          words = λ s u b. true-false (sym (ok-bad _ _ b) ∙ words-pass (layoutIn τ a) a (o .words) s u);
+          settled = settled-yes d (o .lanes) (o .words) (o .settled);
+        }
+
+    pub valid-opens : Valid τ a → Opens τ a
+    valid-opens v =
+        let d : Described τ a = record {
+          size = ok-length (length a) (v .size);
+          block = ne-eqb (length (infoBlockOf a)) 0 (λ e. omega (arith, v .info .size));
+          allowed = ok-info τ (infoBlockOf a) (length a) (block-small a small) (v .figures);
+          flags = ok-flags (infoBlockOf a) (v .flags);
+        } in
+        let all = every-intro ((layoutIn τ a) .N) (laneReadable (layoutIn τ a) a) (λ l u. ok-readable (layoutIn τ a) a l (v .lanes l u)) in
+        let f : lanesLost (layoutIn τ a) a ≡ false = rw all in
+        let w : wordBad (layoutIn τ a) a ≡ false = some-intro ((layoutIn τ a) .E) _
+        (λ s u. by-bool (badWord ((layoutIn τ a) .I) (mapWord (layoutIn τ a) a s)) _ (λ t. absurd (v .words s u (bad-ok _ _ t))) (λ t. t)) in
+        record {
+          info = d;
+          lanes = f;
+          words = w;
+          settled = unsettled-no d f w (v .settled);
+        }
+
+    pub opening-answers : (work : List ℕ) → OpeningAnswers τ a work
+    unfolding openOf
+    opening-answers work = record {
+      answers = answers (length work);
+      accepts = λ e. let p = open-zero τ told a (length work) e in (opens-valid (p .0), p .1);
+      only = λ v h. zero-open τ told a (length work) (valid-opens v) h;
+    }

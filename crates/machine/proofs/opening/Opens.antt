@@ -1,0 +1,145 @@
+-- What an opening that answers 0 found and gives. No rule applied but perhaps the fifth, so the answer goes by the work buffer alone; the
+-- handle has the info block's figures, and each lane's record as its log has it.
+use mathlib.Core.Path.{_≡_, ap, _∙_}
+use mathlib.Core.Logic.{_≢_}
+use mathlib.Core.List.{List}
+use mathlib.Core.Bool.{true, false, cond}
+use Prim.Native.Nat.{ℕ, _≤_, _<_}
+use native.Mathlib.Omega.{arith}
+use lib.Dec.{eqb, ltb}
+use lib.ListN.{length}
+use borrow.Author.Tests.{ltb-false, le-ltb, not-false}
+use Rattle.layout.specs.Figures.{lengthAllowed}
+use Rattle.layout.specs.Place.{Layout, layoutOf}
+use Rattle.format.specs.MapWord.{badWord}
+use Rattle.infoblock.specs.Info.{infoBlockOf, infoAllowed, flagsAllowed}
+use Rattle.format.proofs.Tests.{or-false, every-intro, every-elim, some-intro, some-elim}
+use Rattle.machine.specs.declared.lane.Lane.{Lane}
+use Rattle.machine.specs.state.Handle.{Handle, laneAt, ToldOk}
+use Rattle.machine.specs.state.Flog.{mapWord}
+use Rattle.machine.specs.Rules.{answer}
+use Rattle.machine.specs.calls.Opening.{OpenRule, wrongLength, noInfoBlock, forbiddenFigure, flagsSet, shortWork, lostLane, badWords, notValid, numberOpen, orderOpen, testsOpen, lanesLost, wordBad, unsettled, figuresIn, layoutIn, laneReadable, twoPending, openNumber, foundLane, handleFor, openOf}
+use Rattle.machine.specs.words.InBytes.{Small}
+use Rattle.machine.specs.claims.DemandTwo.{AllIdle}
+use Rattle.machine.proofs.rules.Rules.{Passed, passed-all}
+use Rattle.machine.proofs.invariant.Lanes.{found-lane-at}
+use Rattle.machine.proofs.opening.Described.{Described, described-layout, described-arena}
+use Rattle.machine.proofs.opening.Ghosts.{Consistent}
+use Rattle.layout.specs.declared.Told.{Told}
+
+module _ (τ : Told) where
+  -- no rule applies but perhaps the fifth
+  pub record Opens (a : List ℕ) : Type 0 where
+    pub info : Described τ a
+    pub lanes : lanesLost (layoutIn τ a) a ≡ false
+    pub words : wordBad (layoutIn τ a) a ≡ false
+    pub settled : unsettled (layoutIn τ a) a ≡ false
+
+-- rules 6 and 7 passed, lane by lane and word by word
+pub lanes-pass : (g : Layout) (a : List ℕ) → lanesLost g a ≡ false → (l : ℕ) → l < g .N → laneReadable g a l ≡ true
+lanes-pass g a e = every-elim (g .N) (laneReadable g a) (not-false _ e)
+
+pub words-pass : (g : Layout) (a : List ℕ) → wordBad g a ≡ false → (s : ℕ) → s < g .E → badWord (g .I) (mapWord g a s) ≡ false
+words-pass g a = some-elim (g .E) (λ s. badWord (g .I) (mapWord g a s))
+
+-- ---- what an accepted opening passed
+
+pub some-number-open : (r : OpenRule) → numberOpen r ≢ 0
+some-number-open wrongLength e = omega arith
+some-number-open noInfoBlock e = omega arith
+some-number-open forbiddenFigure e = omega arith
+some-number-open flagsSet e = omega arith
+some-number-open shortWork e = omega arith
+some-number-open lostLane e = omega arith
+some-number-open badWords e = omega arith
+some-number-open notValid e = omega arith
+
+pub record OpeningPassed (τ : Told) (a : List ℕ) (n : ℕ) : Type 0 where
+  pub size : lengthAllowed (length a) ≡ true
+  pub block : eqb (length (infoBlockOf a)) 0 ≡ false
+  pub allowed : infoAllowed τ (infoBlockOf a) (length a) ≡ true
+  pub flags : flagsAllowed (infoBlockOf a) ≡ true
+  pub room : (layoutIn τ a) .I ≤ n
+  pub lanes : lanesLost (layoutIn τ a) a ≡ false
+  pub words : wordBad (layoutIn τ a) a ≡ false
+  pub settled : unsettled (layoutIn τ a) a ≡ false
+
+opening-passed : (τ : Told) (a : List ℕ) (room : ℕ) → Passed numberOpen (testsOpen τ a room) orderOpen → OpeningPassed τ a room
+opening-passed τ a room (p1, (p2, (p3, (p4, (p5, (p6, (p7, (p8, _)))))))) = record {
+  size = not-false _ p1;
+  block = p2;
+  allowed = not-false _ p3;
+  flags = not-false _ p4;
+  room = ltb-false _ _ p5;
+  lanes = p6;
+  words = p7;
+  settled = p8;
+}
+
+module _ (τ : Told) (told : ToldOk τ) where
+  module _ (a : List ℕ) (room : ℕ) where
+    pub open-number : Opens τ a → openNumber τ a room ≡ cond (ltb room ((layoutIn τ a) .I)) 5 0
+    unfolding openNumber answer
+    open-number o = rw (o .info .size, o .info .block, o .info .allowed, o .info .flags, o .lanes, o .words, o .settled)
+
+    pub zero-open : Opens τ a → (layoutIn τ a) .I ≤ room → openNumber τ a room ≡ 0
+    zero-open o h = open-number o ∙ rw (le-ltb room ((layoutIn τ a) .I) h)
+
+    pub open-zero : openNumber τ a room ≡ 0 → Opens τ a × ((layoutIn τ a) .I ≤ room)
+    unfolding openNumber
+    open-zero e =
+        let p = opening-passed τ a room (passed-all numberOpen some-number-open (testsOpen τ a room) orderOpen e) in (
+          record {
+            info = record { size = p .size; block = p .block; allowed = p .allowed; flags = p .flags };
+            lanes = p .lanes;
+            words = p .words;
+            settled = p .settled;
+          },
+          p .room,
+        )
+
+  -- ---- what it gives
+
+  pub handle-lane : (a : List ℕ) (l : ℕ) → l < (layoutIn τ a) .N → laneAt ((handleFor τ a) .lanes) l ≡ foundLane (layoutIn τ a) a l
+  unfolding handleFor
+  handle-lane a l u = found-lane-at (layoutIn τ a) a ((layoutIn τ a) .N) l u
+
+  module _ (a work : List ℕ) (e : (openOf τ a work) .number ≡ 0) where
+    pub opened-handle : (openOf τ a work) .handle ≡ handleFor τ a
+    unfolding openOf
+    opened-handle = rw e
+
+    pub opened-distance : (openOf τ a work) .handle .distance ≡ τ .distance
+    unfolding handleFor
+    opened-distance = ap (λ (h : Handle). h .distance) opened-handle
+
+    pub opened-figures : (openOf τ a work) .handle .figures ≡ figuresIn a
+    unfolding handleFor
+    opened-figures = ap (λ (h : Handle). h .figures) opened-handle
+
+    pub opened-lane : (l : ℕ) → l < (layoutIn τ a) .N → laneAt ((openOf τ a work) .handle .lanes) l ≡ foundLane (layoutIn τ a) a l
+    opened-lane l u = rw opened-handle (handle-lane a l u)
+
+    pub opened-idle : AllIdle ((openOf τ a work) .handle)
+    unfolding layoutOf
+    opened-idle l u = ap (λ (r : Lane). r .busy) (opened-lane l (rw opened-figures at u))
+
+  pub opens-consistent : (a : List ℕ) → Opens τ a → Small a → Consistent (layoutIn τ a) a
+  opens-consistent a o small = let g = layoutIn τ a in
+      let p = or-false (twoPending g a) _ (o .settled) in
+      record {
+        ok = described-layout τ told a (o .info);
+        arena = described-arena τ told a (o .info) small;
+        lanes = lanes-pass g a (o .lanes);
+        words = words-pass g a (o .words);
+        apart = p .0;
+        once = not-false _ (p .1);
+      }
+
+  pub consistent-opens : (a : List ℕ) → Described τ a → Consistent (layoutIn τ a) a → Opens τ a
+  consistent-opens a d j = let g = layoutIn τ a in record {
+    info = d;
+    lanes = rw (every-intro (g .N) (laneReadable g a) (j .lanes));
+    words = some-intro (g .E) (λ s. badWord (g .I) (mapWord g a s)) (j .words);
+    settled = rw (j .apart, j .once);
+  }

@@ -1,0 +1,11 @@
+pub mod Answers
+pub mod Calls
+pub mod Contents
+pub mod DemandTwo
+pub mod Events
+pub mod Follows
+pub mod Opens
+pub mod Reads
+pub mod State
+pub mod Steps
+pub mod Zeroes

@@ -1,0 +1,152 @@
+-- An arena that was opened follows the row that it began with, event by event: the row stands for the arena at first, every event
+-- keeps that, and what stands for the arena answers and reads alike.
+use mathlib.Core.Path.{_≡_, refl, sym, ap, ap₂, _∙_, subst}
+use mathlib.Core.List.{List, [], _∷_, List·Memᴰ·head, List·Memᴰ·tail}
+use mathlib.Core.Bool.{false}
+use Prim.Native.Nat.{ℕ, _≤_, _<_}
+use lib.ListN.{length, replicate}
+use Rattle.layout.specs.declared.Figures.{Figures}
+use Rattle.machine.specs.state.Handle.{laneAt, laidOut, ToldOk}
+use Rattle.machine.specs.calls.Opening.{figuresIn, openOf}
+use Rattle.machine.specs.words.InBytes.{Small}
+use Rattle.machine.specs.calls.Reading.{readOf}
+use Rattle.machine.specs.calls.History.{
+  runs,
+  says,
+  State,
+  Reply,
+  openedState,
+  Event,
+  afterEvent,
+  replyEvent,
+  runEvents,
+  replyEvents,
+  SmallEvent,
+  SmallEvents,
+  openedFrom,
+}
+use Rattle.machine.specs.models.Row.{
+  idle,
+  Row,
+  rowRead,
+  rowAfterEvent,
+  rowReplyEvent,
+  rowAfterAll,
+  rowReplies,
+  SameBuffer,
+  OneBuffer,
+  foundSector,
+  firstRow,
+}
+use Rattle.machine.specs.claims.DemandTwo.{AllIdle, OpensAgain, FollowsRow, leaves, rowLeft}
+use Rattle.machine.proofs.opening.Opens.{opened-figures, opened-idle}
+use Rattle.machine.proofs.invariant.Good.{idle-arena, idle-count}
+use Rattle.machine.proofs.calls.Running.{word-idle}
+use Rattle.machine.proofs.invariant.Held.{held-open, lanes-out, sectors-out}
+use Rattle.machine.specs.calls.Asides.{Happening, latestOf, AllHarmless}
+use Rattle.machine.proofs.invariant.Asides.{latest-state, latest-heard}
+use Rattle.machine.proofs.invariant.Histories.{HeldIn, held-small, held-figures, alike-open, alike-event, alike-events}
+use Rattle.machine.proofs.row.Contents.{contentOf}
+use Rattle.machine.proofs.row.Reads.{held-read, read-found}
+use Rattle.machine.proofs.row.Answers.{read-is}
+use Rattle.machine.proofs.row.Events.{RepIn, idle-as, accepted, event-reply, event-rep}
+use Rattle.machine.specs.state.Lane.{isBusy}
+use Rattle.layout.specs.declared.Told.{Told}
+
+module _ (τ : Told) (told : ToldOk τ) where
+  -- ---- the row that an arena begins with
+
+  pub first-rep : (x : State) → HeldIn τ x → AllIdle (x .handle) → RepIn τ (firstRow x) x
+  first-rep x k calm = record { held = k; lane = λ l u. idle-as _ _ _ _ (word-idle (laneAt (x .handle .lanes) l) (calm l (lanes-out (x .handle .distance) (x .handle .figures) l u))); sector = found }
+    where
+      found : (s : ℕ) → s < (laidOut (x .handle)) .E
+          → foundSector (readOf (x .arena) (x .handle) s (replicate (x .handle .figures .size) 0)) ≡ contentOf (x .handle .distance) (x .handle .figures) (x .arena) s
+      found s u = ap foundSector (held-read τ told (x .arena) (x .handle) k s _) ∙ read-found (x .handle .figures) _ s (sectors-out (x .handle .distance) (x .handle .figures) s u)
+
+  -- ---- event by event
+
+  -- one event, where the figures are f
+  event-of : (f : Figures) (row : Row) (x : State) (e : Event) → x .handle .figures ≡ f → RepIn τ row x → SmallEvent e → SameBuffer f row e
+      → (replyEvent τ x e ≡ rowReplyEvent f row e) × RepIn τ (rowAfterEvent f row e) (afterEvent τ x e)
+  event-of f row x e g k small = subst
+      (λ (y : Figures). SameBuffer y row e → (replyEvent τ x e ≡ rowReplyEvent y row e) × RepIn τ (rowAfterEvent y row e) (afterEvent τ x e)) g
+      (λ same. (event-reply τ told row x k e, event-rep τ told row x k e small same))
+
+  follow : (f : Figures) (es : List Event) (row : Row) (x : State) → x .handle .figures ≡ f → RepIn τ row x → SmallEvents es → OneBuffer f row es
+      → (replyEvents τ x es ≡ rowReplies f row es) × RepIn τ (rowAfterAll f row es) (runEvents τ x es)
+  unfolding says runs
+  follow f [] row x g k small one = (refl, k)
+  follow f (e ∷ es) row x g k small one =
+      let p = event-of f row x e g k (small e (List·Memᴰ·head refl)) (one .0) in
+      let q = follow f es (rowAfterEvent f row e) (afterEvent τ x e) (alike-event τ told x e (k .held) .figures ∙ g) (p .1)
+      (λ d m. small d (List·Memᴰ·tail m)) (one .1) in
+      (ap₂ {C = List Reply} (λ r rs. r ∷ rs) (p .0) (q .0), q .1)
+
+  -- ---- opened again with every lane idle
+
+  module _ (row : Row) (x : State) (k : RepIn τ row x) (calm : AllIdle (x .handle)) (room : List ℕ) (u : x .handle .figures .blocks ≤ length room) where
+    all-idle : (l : ℕ) → l < (laidOut (x .handle)) .N → isBusy (laneAt (x .handle .lanes) l) ≡ false
+    all-idle l v = word-idle (laneAt (x .handle .lanes) l) (calm l (lanes-out (x .handle .distance) (x .handle .figures) l v))
+
+    opens : (openOf τ (x .arena) room) .number ≡ 0
+    opens = accepted τ told row x k room u
+
+    same-arena : (openOf τ (x .arena) room) .arena ≡ x .arena
+    same-arena = idle-arena τ told (x .arena) (x .handle .distance) (x .handle .figures) (x .handle .lanes) (k .held .good) room u all-idle
+
+    same-distance : (openOf τ (x .arena) room) .handle .distance ≡ x .handle .distance
+    same-distance = alike-open τ told x room (k .held) opens .distance
+
+    same-figures : (openOf τ (x .arena) room) .handle .figures ≡ x .handle .figures
+    same-figures = alike-open τ told x room (k .held) opens .figures
+
+    idle-lane : (l : ℕ) → l < (laidOut (x .handle)) .N → row .lane l ≡ idle
+    idle-lane l v = k .lane l v .is ∙ rw (all-idle l v)
+
+    again-rep : RepIn τ row (openedState (openOf τ (x .arena) room))
+    again-rep = record {
+      held = held-open τ told (x .arena) room (held-small τ told x (k .held)) opens;
+      lane = λ l v. rw (idle-lane l (rw (same-distance, same-figures) at v)) (idle-as _ _ _ _ (word-idle (laneAt ((openOf τ (x .arena) room) .handle .lanes) l) (opened-idle τ told (x .arena) room opens l (lanes-out _ _ l v))));
+      sector = rw (same-distance, same-figures, same-arena) (k .sector);
+    }
+
+    opens-again : OpensAgain τ x row room
+    opens-again = record {
+      number = opens;
+      mended = idle-count τ told (x .arena) (x .handle .distance) (x .handle .figures) (x .handle .lanes) (k .held .good) room u all-idle;
+      arena = same-arena;
+      reads = λ s buffer. read-is τ told row ((openOf τ (x .arena) room) .arena) ((openOf τ (x .arena) room) .handle) again-rep s buffer
+          ∙ ap (λ (f : Figures). rowRead f row s buffer) (same-figures ∙ sym (held-figures τ told x (k .held)));
+    }
+
+  -- ---- the claim
+
+  module _ (a work : List ℕ) (hs : List Happening) (small : Small a) (smalls : SmallEvents (latestOf hs)) (e : (openOf τ a work) .number ≡ 0)
+      (harmless : AllHarmless τ (openedFrom τ a work) hs) (one : OneBuffer (figuresIn a) (firstRow (openedFrom τ a work)) (latestOf hs)) where
+    begins : HeldIn τ (openedFrom τ a work)
+    begins = held-open τ told a work small e
+
+    -- the events through the latest handle come to the whole history
+    come : runEvents τ (openedFrom τ a work) (latestOf hs) ≡ leaves τ a work hs
+    come = sym (latest-state τ told hs (openedFrom τ a work) harmless)
+
+    ran : (replyEvents τ (openedFrom τ a work) (latestOf hs) ≡ rowReplies (figuresIn a) (firstRow (openedFrom τ a work)) (latestOf hs))
+        × RepIn τ (rowLeft τ a work hs) (runEvents τ (openedFrom τ a work) (latestOf hs))
+    ran = follow (figuresIn a) (latestOf hs) (firstRow (openedFrom τ a work)) (openedFrom τ a work) (opened-figures τ told a work e)
+        (first-rep (openedFrom τ a work) begins (opened-idle τ told a work e)) smalls one
+
+    rep : RepIn τ (rowLeft τ a work hs) (leaves τ a work hs)
+    rep = subst (RepIn τ (rowLeft τ a work hs)) come (ran .1)
+
+    figures-last : (leaves τ a work hs) .handle .figures ≡ figuresIn a
+    figures-last = subst (λ (x : State). x .handle .figures ≡ figuresIn a) come
+        (alike-events τ told (openedFrom τ a work) (latestOf hs) smalls begins .figures ∙ opened-figures τ told a work e)
+
+    pub follows : FollowsRow τ a work hs
+    follows = record {
+      replies = latest-heard τ told hs (openedFrom τ a work) harmless ∙ ran .0;
+      reads = λ s buffer. read-is τ told _ _ _ rep s buffer ∙ ap (λ (f : Figures). rowRead f (rowLeft τ a work hs) s buffer) figures-last;
+      figures = held-figures τ told (leaves τ a work hs) (rep .held) ∙ figures-last;
+      handle = figures-last;
+      again = λ calm room u. opens-again _ _ rep calm room (rw figures-last u);
+    }

@@ -1,0 +1,181 @@
+-- Opening and cut opening: all is judged first, then pending lanes are mended in rising order, one word each.
+use mathlib.Core.Bool.{Bool, cond, not, _&&_, _||_}
+use mathlib.Core.List.{List, [], _∷_, _++_}
+use Prim.Native.Nat.{ℕ, zero, suc, _+_, _-_}
+use lib.Dec.{eqb, ltb}
+use lib.ListN.{length, take, drop, replicate}
+use Rattle.format.specs.Tests.{every, some, allOf}
+use Rattle.format.specs.Sequence.{successor}
+use Rattle.format.specs.MapWord.{mappedTo, badWord}
+use Rattle.layout.specs.Figures.{lengthAllowed}
+use Rattle.layout.specs.Place.{Layout, layoutOf, inMap}
+use Rattle.layout.specs.declared.Figures.{Figures}
+use Rattle.layout.specs.declared.Told.{Told}
+use Rattle.infoblock.specs.Info.{infoBlockOf, infoAllowed, flagsAllowed, figuresOf}
+use Rattle.machine.specs.declared.lane.Lane.{Lane}
+use Rattle.machine.specs.Rules.{answer}
+use Rattle.machine.specs.state.Lane.{idleLane}
+use Rattle.machine.specs.state.Handle.{Handle, noHandle}
+use Rattle.machine.specs.state.Stores.{Store, putAll}
+use Rattle.machine.specs.state.Flog.{mapWord, mapBlock, newerHalf, newerWord, freeOf, pending}
+
+-- the figures of the arena's info block that counts, and its layout as an opening is told it
+abbrev pub figuresIn : List ℕ → Figures
+figuresIn a = figuresOf (infoBlockOf a)
+
+abbrev pub layoutIn : Told → List ℕ → Layout
+layoutIn t a = layoutOf (t .distance) (figuresIn a)
+
+-- rule 6 does not apply to a lane: it has a newer half, whose sector is below E and old and new below I
+unfoldable pub laneReadable : Layout → List ℕ → ℕ → Bool
+laneReadable g a l = allOf (
+    ltb (newerHalf g a l) 2 ∷ ltb (newerWord g a l 0) (g .E) ∷ ltb (newerWord g a l 1) (g .I) ∷ ltb (newerWord g a l 2) (g .I) ∷ [])
+
+-- the mending store of a pending lane
+abbrev pub mendStore : Layout → List ℕ → ℕ → Store
+mendStore g a l = record { place = inMap (newerWord g a l 0); value = mappedTo (newerWord g a l 2) }
+
+-- the stores of an opening, of the lanes below n in rising order
+unfoldable pub mends : Layout → List ℕ → ℕ → List Store
+mends g a zero = []
+mends g a (suc l) = mends g a l ++ cond (pending g a l) (mendStore g a l ∷ []) []
+
+-- how many of the lanes below n are pending
+unfoldable pub pendingLanes : Layout → List ℕ → ℕ → ℕ
+pendingLanes g a zero = 0
+pendingLanes g a (suc l) = pendingLanes g a l + cond (pending g a l) 1 0
+
+-- the arena with its map mended
+abbrev pub mended : Layout → List ℕ → List ℕ
+mended g a = putAll g (mends g a (g .N)) a
+
+-- two pending lanes name the same sector
+unfoldable pub twoPending : Layout → List ℕ → Bool
+twoPending g a = some (g .N) (λ l. some l (λ j. pending g a l && (pending g a j && eqb (newerWord g a l 0) (newerWord g a j 0))))
+
+-- how many of the first n values of f are b
+unfoldable pub count : ℕ → (ℕ → ℕ) → ℕ → ℕ
+count zero f b = 0
+count (suc n) f b = count n f b + cond (eqb b (f n)) 1 0
+
+-- mapped and free blocks are 0 to I - 1, each once
+unfoldable pub eachOnce : Layout → (ℕ → ℕ) → (ℕ → ℕ) → Bool
+eachOnce g mapped free = every (g .I) (λ b. eqb (count (g .E) mapped b + count (g .N) free b) 1)
+
+-- ---- the rules
+
+-- rule 6: some lane is not readable
+abbrev pub lanesLost : Layout → List ℕ → Bool
+lanesLost g a = not (every (g .N) (laneReadable g a))
+
+-- rule 7: some sector's map word names a block past the last
+abbrev pub wordBad : Layout → List ℕ → Bool
+wordBad g a = some (g .E) (λ s. badWord (g .I) (mapWord g a s))
+
+-- rule 8: two pending lanes name one sector, or mapped and free blocks are not each block once
+abbrev pub unsettled : Layout → List ℕ → Bool
+unsettled g a = twoPending g a || not (eachOnce g (mapBlock g (mended g a)) (freeOf g a))
+
+-- a condition of document 01's table at opening
+pub data OpenRule : Type 0 where
+  wrongLength : OpenRule
+  noInfoBlock : OpenRule
+  forbiddenFigure : OpenRule
+  flagsSet : OpenRule
+  shortWork : OpenRule
+  lostLane : OpenRule
+  badWords : OpenRule
+  notValid : OpenRule
+
+abbrev pub numberOpen : OpenRule → ℕ
+numberOpen wrongLength = 1
+numberOpen noInfoBlock = 2
+numberOpen forbiddenFigure = 3
+numberOpen flagsSet = 4
+numberOpen shortWork = 5
+numberOpen lostLane = 6
+numberOpen badWords = 7
+numberOpen notValid = 8
+
+-- what is judged of the length and the info block, and with the work buffer's length all that is judged before that buffer is used
+abbrev pub infoRules : List OpenRule
+infoRules = wrongLength ∷ noInfoBlock ∷ forbiddenFigure ∷ flagsSet ∷ []
+
+abbrev pub aloneRules : List OpenRule
+aloneRules = infoRules ++ (shortWork ∷ [])
+
+-- what is judged of the flog and the map, over all lanes before all words
+abbrev pub mapRules : List OpenRule
+mapRules = lostLane ∷ badWords ∷ notValid ∷ []
+
+abbrev pub orderOpen : List OpenRule
+orderOpen = aloneRules ++ mapRules
+
+-- what each rule tests, of an arena and the length of the work buffer
+abbrev pub testsOpen : Told → List ℕ → ℕ → OpenRule → Bool
+testsOpen t a room wrongLength = not (lengthAllowed (length a))
+testsOpen t a room noInfoBlock = eqb (length (infoBlockOf a)) 0
+testsOpen t a room forbiddenFigure = not (infoAllowed t (infoBlockOf a) (length a))
+testsOpen t a room flagsSet = not (flagsAllowed (infoBlockOf a))
+testsOpen t a room shortWork = ltb room ((layoutIn t a) .I)
+testsOpen t a room lostLane = lanesLost (layoutIn t a) a
+testsOpen t a room badWords = wordBad (layoutIn t a) a
+testsOpen t a room notValid = unsettled (layoutIn t a) a
+
+unfoldable pub openNumber : Told → List ℕ → ℕ → ℕ
+openNumber t a room = answer numberOpen (testsOpen t a room) orderOpen
+
+-- ---- what it leaves
+
+-- the work buffer: alone where a rule before its use applies, otherwise its first I bytes are 0 and the rest unchanged
+unfoldable pub workAfter : Told → List ℕ → List ℕ → List ℕ
+workAfter t a work =
+    let i = (layoutIn t a) .I in
+    cond (eqb (answer numberOpen (testsOpen t a (length work)) aloneRules) 0) (replicate i 0 ++ drop i work) work
+
+-- a lane as opening leaves it: old is free, the other half and the successor come next
+abbrev pub foundLane : Layout → List ℕ → ℕ → Lane
+foundLane g a l = idleLane (freeOf g a l) (1 - newerHalf g a l) (successor (newerWord g a l 3))
+
+unfoldable pub foundLanes : Layout → List ℕ → ℕ → List Lane
+foundLanes g a zero = []
+foundLanes g a (suc l) = foundLanes g a l ++ (foundLane g a l ∷ [])
+
+-- the handle of an accepted opening
+unfoldable pub handleFor : Told → List ℕ → Handle
+handleFor t a =
+    let g = layoutIn t a in
+    record { length = length a; distance = t .distance; figures = figuresIn a; lanes = foundLanes g a (g .N) }
+
+pub record Opening : Type 0 where
+  pub number : ℕ
+  pub mended : ℕ
+  pub arena : List ℕ
+  pub handle : Handle
+  pub work : List ℕ
+
+-- an opening that is cut after its first k stores, or makes all if there are fewer; it gives no handle
+unfoldable pub cutOpenOf : Told → List ℕ → List ℕ → ℕ → Opening
+cutOpenOf t a work k =
+    let n = openNumber t a (length work) in
+    let g = layoutIn t a in
+    record {
+      number = n;
+      mended = cond (eqb n 0) (pendingLanes g a (g .N)) 0;
+      arena = cond (eqb n 0) (putAll g (take k (mends g a (g .N))) a) a;
+      handle = noHandle;
+      work = workAfter t a work;
+    }
+
+-- an opening makes every store, and gives the handle
+unfoldable pub openOf : Told → List ℕ → List ℕ → Opening
+openOf t a work =
+    let n = openNumber t a (length work) in
+    let g = layoutIn t a in
+    record {
+      number = n;
+      mended = cond (eqb n 0) (pendingLanes g a (g .N)) 0;
+      arena = cond (eqb n 0) (mended g a) a;
+      handle = cond (eqb n 0) (handleFor t a) noHandle;
+      work = workAfter t a work;
+    }

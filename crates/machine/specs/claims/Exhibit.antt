@@ -1,0 +1,69 @@
+-- A run that the claims speak of: two writes interleaved, of which one is unfinished and one lacks only its map word, a refused start and
+-- a whole write, on the made arena of case 9.
+use mathlib.Core.Path.{_≡_}
+use mathlib.Core.List.{List, [], _∷_, _++_, map}
+use Prim.Native.Nat.{ℕ, _+_}
+use lib.ListN.{length, replicate}
+use Rattle.layout.specs.Told.{alone}
+use Rattle.machine.specs.state.Handle.{noHandle}
+use Rattle.machine.specs.calls.Making.{Wanted, makeOf}
+use Rattle.machine.specs.calls.Opening.{figuresIn, openOf}
+use Rattle.machine.specs.calls.History.{Call, read, start, step, write, State, run, reply, called, opened, openedFrom, SmallEvents}
+use Rattle.machine.specs.calls.Asides.{Happening, latest, aside, shortened, latestOf, AllHarmless}
+use Rattle.machine.specs.words.InBytes.{Small}
+use Rattle.machine.specs.models.Row.{OneBuffer, firstRow}
+use Rattle.machine.specs.models.Book.{bookAfter}
+use Rattle.machine.specs.claims.DemandThree.{Listed}
+
+-- 60 sectors of 512 bytes and 4 lanes in 49,152 bytes
+abbrev pub exhibitWanted : Wanted
+exhibitWanted = record { size = 512; sectors = 60; lanes = 4; first = replicate 16 0; second = replicate 16 0 }
+
+abbrev pub exhibitFound : List ℕ
+exhibitFound = (makeOf exhibitWanted (replicate 49152 0)) .arena
+
+abbrev pub exhibitWork : List ℕ
+exhibitWork = replicate 64 0
+
+abbrev pub exhibitState : State
+exhibitState = openedFrom alone exhibitFound exhibitWork
+
+-- the bytes of the write on each lane
+abbrev pub exhibitBytes : ℕ → List ℕ
+exhibitBytes l = replicate 512 (l + 1)
+
+-- 132 steps on lane 0 with a step on lane 1 between
+abbrev pub interleaved : List Call
+interleaved = start 0 7 ∷ start 1 8 ∷ step 0 (exhibitBytes 0) ∷ step 1 (exhibitBytes 1) ∷ replicate 131 (step 0 (exhibitBytes 0))
+
+-- a start on a lane that is not idle, a read, and a whole write
+abbrev pub exhibitCalls : List Call
+exhibitCalls = interleaved ++ (start 0 9 ∷ read 7 (replicate 512 0) ∷ write 2 10 (exhibitBytes 2) ∷ [])
+
+-- the two writes finished: one more step on lane 0, and all that are left on lane 1
+abbrev pub finishedCalls : List Call
+finishedCalls = interleaved ++ (step 0 (exhibitBytes 0) ∷ replicate 132 (step 1 (exhibitBytes 1)))
+
+-- the first run as a history: a cut and an opening at its end, a call given another handle and a refused cut opening before it
+abbrev pub exhibitHistory : List Happening
+exhibitHistory = aside noHandle (step 0 (exhibitBytes 0)) ∷ shortened [] 1 ∷ map latest (map called exhibitCalls ++ (opened exhibitWork ∷ []))
+
+pub record Exhibited : Type 0 where
+  -- the premises of demand 2
+  pub small : Small exhibitFound
+  pub small-events : SmallEvents (latestOf exhibitHistory)
+  pub opens : (openOf alone exhibitFound exhibitWork) .number ≡ 0
+  pub one-buffer : OneBuffer (figuresIn exhibitFound) (firstRow exhibitState) (latestOf exhibitHistory)
+  pub harmless : AllHarmless alone exhibitState exhibitHistory
+  -- the premise of demand 3, after a history that is not empty, and with all writes finished too
+  pub listed : Listed alone exhibitState exhibitCalls exhibitBytes
+  pub some-history : length (listed .ready .history) ≡ 2
+  pub finished : Listed alone exhibitState finishedCalls exhibitBytes
+  -- what the runs come to
+  pub refused : (reply (run exhibitState interleaved) (start 0 9)) .number ≡ 12
+  pub tallies : bookAfter alone (exhibitState .arena) [] exhibitCalls
+      ≡ record { lane = 2; sector = 10; tally = 133 } ∷ record { lane = 1; sector = 8; tally = 1 } ∷ record { lane = 0; sector = 7; tally = 132 } ∷ []
+  pub all-finished : bookAfter alone (exhibitState .arena) [] finishedCalls
+      ≡ record { lane = 1; sector = 8; tally = 133 } ∷ record { lane = 0; sector = 7; tally = 133 } ∷ []
+  -- cut where one lacks only its map word and opened, one write is mended
+  pub mended : (openOf alone ((run exhibitState exhibitCalls) .arena) exhibitWork) .mended ≡ 1

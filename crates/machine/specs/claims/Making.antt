@@ -1,0 +1,85 @@
+-- The claim about making.
+use mathlib.Core.Path.{_≡_}
+use mathlib.Core.Logic.{_≢_}
+use mathlib.Core.List.{List, [], _∷_}
+use Prim.Native.Nat.{ℕ, _+_, _*_, _≤_, _<_}
+use lib.ListN.{length, getD, take, drop, replicate}
+use Rattle.words.specs.Bytes.{byteWord}
+use Rattle.format.specs.MapWord.{flagsOf, readingOf}
+use Rattle.layout.specs.Figures.{freshLength, freshFigures}
+use Rattle.layout.specs.Claims.{FreshLayout}
+use Rattle.layout.specs.Told.{alone}
+use Rattle.infoblock.specs.Claims.{FreshBlock}
+use Rattle.layout.specs.declared.Figures.{Figures}
+use Rattle.machine.specs.Rules.{line}
+use Rattle.machine.specs.state.Handle.{laneAt}
+use Rattle.machine.specs.state.Flog.{mapWord}
+use Rattle.machine.specs.calls.Making.{Wanted, wrongSizes, wrongTotal, wrongIdentifier, numberMake, orderMake, makeOf}
+use Rattle.machine.specs.calls.Opening.{figuresIn, layoutIn, openOf}
+use Rattle.machine.specs.words.InBytes.{Small, mapByte}
+use Rattle.machine.specs.words.Records.{Idle}
+use Rattle.layout.specs.Claims.{Length, Sizes}
+use Rattle.machine.specs.words.Valid.{Valid, AnswersMake}
+
+-- what making accepts: allowed S, E and lanes, a length that is allowed and the figure worked out, and identifiers of 16 bytes
+pub record WantedOk (o : Wanted) (n : ℕ) : Type 0 where
+  pub sizes : Sizes (o .size) (o .sectors) (o .lanes)
+  pub size : Length n
+  pub exact : n ≡ freshLength (o .size) (o .sectors) (o .lanes)
+  pub first : length (o .first) ≡ 16
+  pub second : length (o .second) ≡ 16
+
+-- the 64 bytes of lane l in the flog of a fresh arena of E sectors, from byte o on: first half (l, E + l, E + l, 1), the rest zero
+pub record FreshLane (E l : ℕ) (a : List ℕ) (o : ℕ) : Type 0 where
+  pub sector : byteWord a (o + 0) ≡ l
+  pub old : byteWord a (o + 4) ≡ E + l
+  pub new : byteWord a (o + 8) ≡ E + l
+  pub sequence : byteWord a (o + 12) ≡ 1
+  pub rest : (j : ℕ) → o + 16 ≤ j → j < o + 64 → getD a j 0 ≡ 0
+
+-- every byte of the arena m with figures f that making leaves in a
+pub record FreshBytes (o : Wanted) (f : Figures) (a m : List ℕ) : Type 0 where
+  pub size : length m ≡ length a
+  -- each part starts at the least multiple of 4,096 that fits, and m ends with the copy
+  pub starts : FreshLayout (o .size) (o .sectors) (o .lanes) f (length m)
+  -- the info block at its start, field by field; the copy is the same bytes
+  pub info : FreshBlock (o .first) (o .second) f (take 4096 m)
+  pub copy : take 4096 m ≡ drop (f .copyoff) m
+  -- data blocks are not touched
+  pub kept : (j : ℕ) → 4096 ≤ j → j < 4096 + (o .sectors + o .lanes) * o .size → getD m j 0 ≡ getD a j 0
+  -- from their end on: padding, the map and padding, all zero
+  pub before-flog : (j : ℕ) → 4096 + (o .sectors + o .lanes) * o .size ≤ j → j < f .flogoff → getD m j 0 ≡ 0
+  pub flog : (l : ℕ) → l < o .lanes → FreshLane (o .sectors) l m (f .flogoff + 64 * l)
+  -- and from its end to the copy zero
+  pub after-flog : (j : ℕ) → f .flogoff + 64 * o .lanes ≤ j → j < f .copyoff → getD m j 0 ≡ 0
+
+-- what holds of a made arena
+pub record FreshArena (o : Wanted) (a : List ℕ) : Type 0 where
+  pub bytes : FreshBytes o (freshFigures (o .size) (o .sectors) (o .lanes)) a ((makeOf o a) .arena)
+  pub valid : Valid alone ((makeOf o a) .arena)
+  pub figures : figuresIn ((makeOf o a) .arena) ≡ freshFigures (o .size) (o .sectors) (o .lanes)
+  -- it opens, with none mended and no byte changed
+  pub number : (work : List ℕ) → o .sectors + o .lanes ≤ length work → (openOf alone ((makeOf o a) .arena) work) .number ≡ 0
+  pub mended : (work : List ℕ) → (openOf alone ((makeOf o a) .arena) work) .mended ≡ 0
+  pub arena : (work : List ℕ) → (openOf alone ((makeOf o a) .arena) work) .arena ≡ (makeOf o a) .arena
+  -- lane l's free block is E + l; its second half and sequence 2 come next
+  pub lanes : (work : List ℕ) (l : ℕ) → o .sectors + o .lanes ≤ length work → l < o .lanes
+      → Idle (o .sectors + l) 1 2 (laneAt ((openOf alone ((makeOf o a) .arena) work) .handle .lanes) l)
+  -- every sector's map word is zero, and so reads zeroes
+  pub map : (s : ℕ) → s < o .sectors → byteWord ((makeOf o a) .arena) (mapByte (freshFigures (o .size) (o .sectors) (o .lanes)) s) ≡ 0
+  pub zeroes : (s : ℕ) → s < o .sectors → readingOf (flagsOf (mapWord (layoutIn alone ((makeOf o a) .arena)) ((makeOf o a) .arena) s)) ≡ 0
+
+-- the smallest arena: one sector of 512 bytes and one lane
+abbrev pub smallest : Wanted
+smallest = record { size = 512; sectors = 1; lanes = 1; first = replicate 16 0; second = replicate 16 0 }
+
+-- making answers by its line of the table, 0 exactly for what it accepts; a refusal changes nothing; an accepted one gives a made arena; and there is one
+pub record MakingClaim : Type 0 where
+  -- 3 (S, E and lanes only), 1, 10
+  pub order : line numberMake orderMake ≡ (3, wrongSizes) ∷ (1, wrongTotal) ∷ (10, wrongIdentifier) ∷ []
+  pub answers : (o : Wanted) (a : List ℕ) → AnswersMake o (length a) ((makeOf o a) .number)
+  pub accepts : (o : Wanted) (a : List ℕ) → (makeOf o a) .number ≡ 0 → WantedOk o (length a)
+  pub only : (o : Wanted) (a : List ℕ) → WantedOk o (length a) → (makeOf o a) .number ≡ 0
+  pub refused : (o : Wanted) (a : List ℕ) → (makeOf o a) .number ≢ 0 → (makeOf o a) .arena ≡ a
+  pub made : (o : Wanted) (a : List ℕ) → Small a → Small (o .first) → Small (o .second) → (makeOf o a) .number ≡ 0 → FreshArena o a
+  pub one : (makeOf smallest (replicate 20480 0)) .number ≡ 0

@@ -1,0 +1,5 @@
+pub mod Records
+pub mod InBytes
+pub mod Valid
+pub mod Running
+pub mod Table

@@ -1,0 +1,54 @@
+-- What an arena says in its bytes: offsets and words as document 01 writes them.
+use mathlib.Core.Path.{_≡_}
+use mathlib.Core.Bool.{cond}
+use mathlib.Core.List.{List}
+use Prim.Native.Nat.{ℕ, zero, suc, _+_, _*_, _<_}
+use lib.Dec.{eqb}
+use lib.ListN.{getD}
+use Rattle.words.specs.Bytes.{byteWord}
+use Rattle.format.specs.Sequence.{newer}
+use Rattle.format.specs.MapWord.{blockOf}
+use Rattle.layout.specs.declared.Figures.{Figures}
+use Rattle.machine.specs.calls.Opening.{figuresIn}
+
+-- what every lent slice is: a list of numbers below 256
+abbrev pub Small : List ℕ → Type 0
+Small a = (j : ℕ) → getD a j 0 < 256
+
+-- the byte at which word k of half h of lane l starts: 0 sector, 1 old, 2 new, 3 sequence
+abbrev pub flogByte : Figures → ℕ → ℕ → ℕ → ℕ
+flogByte f l h k = f .flogoff + 64 * l + 16 * h + 4 * k
+
+-- the byte at which the map word of sector s starts
+abbrev pub mapByte : Figures → ℕ → ℕ
+mapByte f s = f .mapoff + 4 * s
+
+-- which half of lane l is the newer, by the two sequences
+unfoldable pub newerIn : List ℕ → ℕ → ℕ
+newerIn a l = newer (byteWord a (flogByte (figuresIn a) l 0 3)) (byteWord a (flogByte (figuresIn a) l 1 3))
+
+-- its sector, old, new and sequence
+unfoldable pub sectorIn : List ℕ → ℕ → ℕ
+sectorIn a l = byteWord a (flogByte (figuresIn a) l (newerIn a l) 0)
+
+unfoldable pub oldIn : List ℕ → ℕ → ℕ
+oldIn a l = byteWord a (flogByte (figuresIn a) l (newerIn a l) 1)
+
+unfoldable pub newIn : List ℕ → ℕ → ℕ
+newIn a l = byteWord a (flogByte (figuresIn a) l (newerIn a l) 2)
+
+unfoldable pub sequenceIn : List ℕ → ℕ → ℕ
+sequenceIn a l = byteWord a (flogByte (figuresIn a) l (newerIn a l) 3)
+
+-- the block of map[sector]
+abbrev pub mappedIn : List ℕ → ℕ → ℕ
+mappedIn a l = blockOf (sectorIn a l) (byteWord a (mapByte (figuresIn a) (sectorIn a l)))
+
+-- a lane is pending if that equals old
+abbrev pub PendingIn : List ℕ → ℕ → Type 0
+PendingIn a l = mappedIn a l ≡ oldIn a l
+
+-- how many of the lanes below l are pending
+unfoldable pub pendingBelow : List ℕ → ℕ → ℕ
+pendingBelow a zero = 0
+pendingBelow a (suc l) = pendingBelow a l + cond (eqb (mappedIn a l) (oldIn a l)) 1 0

@@ -1,0 +1,249 @@
+/*
+ * What the tests of the calls lend: each slice, the handle and each number in pages of its own, with guard bytes around it in them and pages
+ * that cannot be touched before and after. A call is checked to answer as it must and to change no byte but of the parts that it may.
+ */
+#ifndef LENT_H
+#define LENT_H
+
+#ifndef _GNU_SOURCE
+#define _GNU_SOURCE
+#endif
+#include <signal.h>
+#include <sys/mman.h>
+#include <unistd.h>
+
+#include "check.h"
+
+enum part { ARENA, WORK, HANDLE, MENDED, BUFFER, RECORD, OFFSET, LENGTH, FIRST_ID, SECOND_ID, PARTS };
+
+#define ONLY(part) (1u << (part))
+enum { NOTHING = 0, GUARD = 0xA7 };
+
+struct lent {
+    uint8_t *at;
+    size_t length;
+    uint8_t *pages;
+    size_t room;
+    uint8_t *copy;      /* the pages as they were before the call */
+};
+
+static struct lent lent[PARTS];
+static const char *calling = "no call", *calling_file = __FILE__;   /* the last call, for a fault in it */
+static int calling_line = __LINE__;
+static uint32_t answers;    /* the set of the answers given so far */
+static int ends_at_page;    /* whether a part ends where its pages end, or begins where they begin */
+
+static uint8_t *arena;
+static struct btt_handle *handle;
+
+/* A lent slice as a call takes it. */
+#define SLICE(part) (lent[part].length == 0 && ends_at_page ? NULL : lent[part].at), lent[part].length
+
+/* Lends so many bytes as that part, in new pages; an empty slice is a null pointer or points where nothing can be touched. */
+static void lend(enum part part, size_t length)
+{
+    struct lent *x = &lent[part];
+    size_t align = part == ARENA ? 4 : part == HANDLE ? 8 : 1;
+    uint8_t *whole;
+
+    if (x->pages != NULL) {
+        CHECK(munmap(x->pages - 4096, x->room + 8192) == 0);
+        free(x->copy);
+    }
+    x->length = length;
+    x->room = units(length);
+    whole = mmap(NULL, x->room + 8192, PROT_NONE, MAP_PRIVATE | MAP_ANONYMOUS, -1, 0);
+    CHECK(whole != MAP_FAILED);
+    x->pages = whole + 4096;
+    CHECK(x->room == 0 || mprotect(x->pages, x->room, PROT_READ | PROT_WRITE) == 0);
+    x->copy = malloc(x->room + 1);
+    CHECK(x->copy != NULL);
+    x->at = x->pages + (ends_at_page ? (x->room - length) / align * align : 0);
+    memset(x->pages, GUARD, x->room);
+    if (length > 0) {
+        pattern(x->at, length, 77 + (uint32_t)part);
+    }
+    arena = lent[ARENA].at;
+    handle = (struct btt_handle *)(void *)lent[HANDLE].at;
+}
+
+static void remember(void)
+{
+    for (int i = 0; i < PARTS; i++) {
+        memcpy(lent[i].copy, lent[i].pages, lent[i].room);
+    }
+}
+
+/* Whether the pages of a part are as they were, the part itself aside if it may change. */
+static int kept(const struct lent *x, int may_change)
+{
+    size_t before = (size_t)(x->at - x->pages), after = before + x->length;
+
+    if (!may_change) {
+        return memcmp(x->pages, x->copy, x->room) == 0;
+    }
+    return memcmp(x->pages, x->copy, before) == 0 && memcmp(x->pages + after, x->copy + after, x->room - after) == 0;
+}
+
+static void answered(uint32_t want, uint32_t got, unsigned may, const char *file, int line, const char *call)
+{
+    static const char *const names[] = {
+        "arena", "work buffer", "handle", "mended", "sector buffer", "record", "offset", "length", "first identifier", "second identifier"
+    };
+    char text[200];
+
+    if (got != want) {
+        snprintf(text, sizeof text, "%s answered %u, not %u", call, (unsigned)got, (unsigned)want);
+        failed(file, line, text);
+    }
+    for (unsigned i = 0; i < PARTS; i++) {
+        if (!kept(&lent[i], may >> i & 1)) {
+            snprintf(text, sizeof text, "%s changed a byte of or beside the %s", call, names[i]);
+            failed(file, line, text);
+        }
+    }
+    answers |= 1u << want;
+    checks++;
+}
+
+/* Makes a call that must answer `want` and may change only the parts of the set `may`. */
+#define CALL(want, may, call) \
+    (remember(), calling = #call, calling_file = __FILE__, calling_line = __LINE__, answered((want), (call), (may), __FILE__, __LINE__, #call))
+
+/* A page was touched that cannot be. */
+static void on_touch(int signal)
+{
+    char text[300];
+
+    (void)signal;
+    snprintf(text, sizeof text, "%s:%d: in or after %s a page was touched that was not lent\n", calling_file, calling_line, calling);
+    _exit(write(2, text, strlen(text)) < 0 ? 2 : 1);
+}
+
+/* The bytes of a part as they were before the last call. */
+static inline const uint8_t *was(enum part part)
+{
+    return lent[part].copy + (lent[part].at - lent[part].pages);
+}
+
+/* The byte of the handle at which the record of a lane starts. */
+static inline size_t record_at(uint32_t lane)
+{
+    return offsetof(struct btt_handle, lane) + lane * sizeof(struct btt_lane);
+}
+
+/* The library's calls over the lent parts. */
+static inline uint32_t make(uint32_t size, uint32_t sectors, uint32_t lanes)
+{
+    return btt_make(SLICE(ARENA), size, sectors, lanes, SLICE(FIRST_ID), SLICE(SECOND_ID));
+}
+
+static inline uint32_t info_block(void)
+{
+    btt_info_block(SLICE(ARENA), (uint64_t *)(void *)lent[OFFSET].at, (uint64_t *)(void *)lent[LENGTH].at);
+    return 0;
+}
+
+static inline uint32_t open_arena(void)
+{
+    return btt_open(SLICE(ARENA), SLICE(WORK), handle, (uint32_t *)(void *)lent[MENDED].at);
+}
+
+static inline uint32_t cut_open(uint32_t k)
+{
+    return btt_cut_open(SLICE(ARENA), SLICE(WORK), k, (uint32_t *)(void *)lent[MENDED].at);
+}
+
+static inline uint32_t read_sector(uint32_t sector)
+{
+    return btt_read(SLICE(ARENA), handle, sector, SLICE(BUFFER));
+}
+
+static inline uint32_t start(uint32_t lane, uint32_t sector)
+{
+    return btt_start(SLICE(ARENA), handle, lane, sector);
+}
+
+static inline uint32_t step(uint32_t lane)
+{
+    return btt_step(SLICE(ARENA), handle, lane, SLICE(BUFFER));
+}
+
+static inline uint32_t write_sector(uint32_t lane, uint32_t sector)
+{
+    return btt_write(SLICE(ARENA), handle, lane, sector, SLICE(BUFFER));
+}
+
+static inline uint32_t lane_record(uint32_t lane)
+{
+    return btt_lane_record(SLICE(ARENA), handle, lane, (struct btt_lane *)(void *)lent[RECORD].at);
+}
+
+static inline uint32_t next_store(uint32_t lane)
+{
+    return btt_next_store(SLICE(ARENA), handle, lane, (uint64_t *)(void *)lent[OFFSET].at);
+}
+
+static inline uint32_t mended(void)
+{
+    return get32(lent[MENDED].at);
+}
+
+/* Lends everything for an arena of these figures, makes it and opens it. */
+static inline void fresh(uint32_t size, uint32_t sectors, uint32_t lanes)
+{
+    lend(ARENA, arena_length(size, sectors, lanes));
+    lend(WORK, sectors + lanes);
+    lend(HANDLE, sizeof(struct btt_handle));
+    lend(MENDED, 4);
+    lend(BUFFER, size);
+    lend(RECORD, sizeof(struct btt_lane));
+    lend(OFFSET, 8);
+    lend(LENGTH, 8);
+    lend(FIRST_ID, 16);
+    lend(SECOND_ID, 16);
+    CALL(0, ONLY(ARENA), make(size, sectors, lanes));
+    CALL(0, ONLY(WORK) | ONLY(HANDLE) | ONLY(MENDED), open_arena());
+    CHECK(mended() == 0);
+}
+
+/* The arena of case 5: its figures and where its parts start. */
+enum { SIZE = 512, SECTORS = 60, LANES = 4, BLOCKS = 64, DATA = 4096, MAP = 36864, FLOG = 40960, COPY = 45056, WHOLE = 49152 };
+enum { LAST = SIZE / 4 + 4 };       /* the stores made of a write that lacks only its map word */
+
+static inline void fresh_case(void)
+{
+    fresh(SIZE, SECTORS, LANES);
+}
+
+static inline uint8_t *map_word(uint32_t sector)
+{
+    return arena + MAP + 4 * sector;
+}
+
+/* What an accepted opening, and an accepted step or whole write, may change. */
+#define OPENED (ONLY(WORK) | ONLY(HANDLE) | ONLY(MENDED))
+#define STEPPED (ONLY(ARENA) | ONLY(HANDLE))
+
+typedef void (*test)(void);
+
+/* Runs the tests with the lent parts at the beginning and at the end of their pages, and says which answers there were. */
+static int run(const char *name, const test *tests, size_t count)
+{
+    signal(SIGSEGV, on_touch);
+    for (ends_at_page = 0; ends_at_page < 2; ends_at_page++) {
+        for (size_t i = 0; i < count; i++) {
+            tests[i]();
+        }
+    }
+    printf("%s: %lu checks, answers", name, checks);
+    for (unsigned answer = 0; answer <= BTT_BAD_HANDLE; answer++) {
+        if (answers >> answer & 1) {
+            printf(" %u", answer);
+        }
+    }
+    printf("\n");
+    return 0;
+}
+
+#endif

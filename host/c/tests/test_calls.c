@@ -1,0 +1,224 @@
+/* The calls with a handle, from C: every answer of their rows and the order among them, and what each must leave as it was. */
+#include "lent.h"
+
+static void test_read(void)
+{
+    static const struct {
+        uint32_t word, answer;
+    } rows[] = {
+        {0x00000000, 0}, {0x00000040, 0}, {0x3FFFFFFF, 0}, {0x40000009, 0}, {0x4000003F, 0}, {0x80000005, 15}, {0x8000003F, 15},
+        {0x40000040, 7}, {0x80000040, 7}, {0xC0000040, 7}, {0xFFFFFFFF, 7}, {0x80000041, 7},
+    };
+    static const size_t rooms[] = {0, 511, 513, 4096};
+
+    fresh_case();
+    pattern(arena + DATA + 9 * SIZE, SIZE, 90);
+    put32(map_word(3), 0xC0000009);
+    CALL(0, ONLY(BUFFER), read_sector(3));
+    CHECK(memcmp(lent[BUFFER].at, arena + DATA + 9 * SIZE, SIZE) == 0);
+    for (size_t i = 0; i < COUNT(rows); i++) {
+        pattern(lent[BUFFER].at, SIZE, 91);
+        put32(map_word(5), rows[i].word);
+        CALL(rows[i].answer, rows[i].answer == 0 ? ONLY(BUFFER) : NOTHING, read_sector(5));
+        CHECK(all_bytes(lent[BUFFER].at, SIZE, 0) == (rows[i].answer == 0));
+    }
+    CALL(9, NOTHING, read_sector(60));
+    CALL(9, NOTHING, read_sector(0xFFFFFFFF));
+    for (size_t i = 0; i < COUNT(rooms); i++) {
+        lend(BUFFER, rooms[i]);
+        CALL(10, NOTHING, read_sector(3));
+        CALL(10, NOTHING, read_sector(5));
+        CALL(9, NOTHING, read_sector(60));
+    }
+}
+
+/* Lane 0 is put in flight with sector 7, whose map word is then bad, as is that of sector 5. */
+static void one_in_flight(void)
+{
+    fresh_case();
+    CALL(0, ONLY(HANDLE), start(0, 7));
+    put32(map_word(7), 0xC0000040);
+    put32(map_word(5), 0x40000040);
+}
+
+static void test_start(void)
+{
+    static const struct btt_lane begun = {.busy = 1, .block = 61, .half = 1, .sequence = 2, .sector = 6, .old = 33, .made = 0};
+
+    one_in_flight();
+    CALL(11, NOTHING, start(4, 3));
+    CALL(11, NOTHING, start(0xFFFFFFFF, 60));
+    CALL(12, NOTHING, start(0, 3));
+    CALL(12, NOTHING, start(0, 60));
+    CALL(9, NOTHING, start(1, 60));
+    CALL(9, NOTHING, start(1, 0xFFFFFFFF));
+    CALL(13, NOTHING, start(1, 7));
+    CALL(7, NOTHING, start(1, 5));
+    put32(map_word(6), 0x80000021);
+    handle->lane[1].sector = 59;
+    handle->lane[1].old = 63;
+    handle->lane[1].made = LAST;
+    CALL(0, ONLY(HANDLE), start(1, 6));
+    CHECK(memcmp(&handle->lane[1], &begun, sizeof begun) == 0);
+    CALL(0, ONLY(HANDLE), start(2, 0));
+    CALL(13, NOTHING, start(3, 0));
+}
+
+static void test_step(void)
+{
+    static const size_t rooms[] = {0, 511, 513, 4096};
+
+    one_in_flight();
+    CALL(14, NOTHING, step(1));
+    CALL(11, NOTHING, step(4));
+    CALL(0, STEPPED, step(0));
+    for (size_t i = 0; i < COUNT(rooms); i++) {
+        lend(BUFFER, rooms[i]);
+        CALL(10, NOTHING, step(0));
+        CALL(14, NOTHING, step(3));
+        CALL(11, NOTHING, step(0xFFFFFFFF));
+    }
+    handle->lane[0].made = LAST;
+    CALL(10, NOTHING, step(0));
+}
+
+static void test_write(void)
+{
+    static const size_t rooms[] = {0, 511, 513, 4096};
+
+    one_in_flight();
+    CALL(11, NOTHING, write_sector(4, 3));
+    CALL(12, NOTHING, write_sector(0, 3));
+    CALL(9, NOTHING, write_sector(1, 60));
+    CALL(13, NOTHING, write_sector(1, 7));
+    CALL(7, NOTHING, write_sector(1, 5));
+    for (size_t i = 0; i < COUNT(rooms); i++) {
+        lend(BUFFER, rooms[i]);
+        CALL(11, NOTHING, write_sector(0xFFFFFFFF, 60));
+        CALL(12, NOTHING, write_sector(0, 60));
+        CALL(9, NOTHING, write_sector(1, 60));
+        CALL(10, NOTHING, write_sector(1, 7));
+        CALL(10, NOTHING, write_sector(1, 5));
+        CALL(10, NOTHING, write_sector(1, 3));
+    }
+    lend(BUFFER, SIZE);
+    CALL(0, STEPPED, write_sector(1, 3));
+}
+
+static void test_looks(void)
+{
+    one_in_flight();
+    for (uint32_t lane = 0; lane < LANES; lane++) {
+        CALL(0, ONLY(RECORD), lane_record(lane));
+        CHECK(memcmp(lent[RECORD].at, &handle->lane[lane], sizeof(struct btt_lane)) == 0);
+    }
+    CALL(11, NOTHING, lane_record(4));
+    CALL(11, NOTHING, lane_record(0xFFFFFFFF));
+    CALL(0, ONLY(OFFSET), next_store(0));
+    CHECK(get_bytes(lent[OFFSET].at, 8) == DATA + 60 * SIZE);
+    CALL(14, NOTHING, next_store(1));
+    CALL(11, NOTHING, next_store(4));
+}
+
+/* Every call with a handle must answer so, whatever else is wrong. */
+static void all_with_handle(uint32_t answer)
+{
+    for (uint32_t far = 0; far < 100; far += 99) {
+        CALL(answer, NOTHING, read_sector(3 + far));
+        CALL(answer, NOTHING, start(far, 3 + far));
+        CALL(answer, NOTHING, start(1 + far, 3));
+        CALL(answer, NOTHING, step(far));
+        CALL(answer, NOTHING, write_sector(1 + far, 3 + far));
+        CALL(answer, NOTHING, lane_record(far));
+        CALL(answer, NOTHING, next_store(far));
+    }
+}
+
+#define FIELD(name) offsetof(struct btt_handle, name), sizeof handle->name
+
+static void test_bad_figures(void)
+{
+    static const struct {
+        size_t at, width;
+        uint64_t value;
+    } rows[] = {
+        {FIELD(length), 45056}, {FIELD(length), 53248}, {FIELD(length), 0}, {FIELD(length), 0x10000C000}, {FIELD(data), 0}, {FIELD(data), 4100},
+        {FIELD(data), 8192}, {FIELD(data), 0xFFFFFFFFFFFFF000}, {FIELD(map), 32768}, {FIELD(map), 40960}, {FIELD(map), 36868},
+        {FIELD(flog), 36864}, {FIELD(flog), 45056}, {FIELD(flog), 40964}, {FIELD(copy), 49152}, {FIELD(copy), 40960}, {FIELD(size), 4096},
+        {FIELD(size), 0}, {FIELD(sectors), 3}, {FIELD(sectors), 61}, {FIELD(sectors), 0xFFFFFFFF}, {FIELD(internal), 4096},
+        {FIELD(internal), 0}, {FIELD(blocks), 63}, {FIELD(blocks), 65}, {FIELD(lanes), 0}, {FIELD(lanes), 17}, {FIELD(lanes), 0xFFFFFFFF},
+    };
+    static const size_t lengths[] = {0, 45056, 53248, 49151};
+
+    for (size_t i = 0; i < COUNT(rows); i++) {
+        one_in_flight();
+        put_bytes(lent[HANDLE].at + rows[i].at, (unsigned)rows[i].width, rows[i].value);
+        all_with_handle(16);
+    }
+    one_in_flight();
+    for (size_t i = 0; i < COUNT(lengths); i++) {
+        lend(ARENA, lengths[i]);
+        all_with_handle(16);
+    }
+    fresh_case();
+    memset(handle, 0, sizeof *handle);
+    all_with_handle(16);
+}
+
+#define WORD(name) offsetof(struct btt_lane, name)
+
+/* A word out of range is 16 in the record of a lane, and is passed over past the lanes. */
+static void test_bad_records(void)
+{
+    static const struct {
+        size_t at;
+        uint32_t value;
+    } rows[] = {
+        {WORD(busy), 2}, {WORD(busy), 0x100}, {WORD(busy), 0xFFFFFFFF}, {WORD(block), BLOCKS}, {WORD(half), 2}, {WORD(sequence), 0},
+        {WORD(sequence), 4}, {WORD(sector), SECTORS}, {WORD(old), BLOCKS}, {WORD(made), LAST + 1}, {WORD(made), 0xFFFFFFFF},
+    };
+
+    for (uint32_t lane = 0; lane < BTT_MAX_LANES; lane++) {
+        for (size_t i = 0; i < COUNT(rows); i++) {
+            one_in_flight();
+            put32((uint8_t *)&handle->lane[lane] + rows[i].at, rows[i].value);
+            if (lane < LANES) {
+                all_with_handle(16);
+            } else {
+                CALL(0, ONLY(BUFFER), read_sector(3));
+                CALL(0, STEPPED, step(0));
+                CALL(0, ONLY(OFFSET), next_store(0));
+            }
+        }
+    }
+}
+
+static int only_lane_changed(uint32_t lane)
+{
+    size_t at = record_at(lane), after = at + sizeof(struct btt_lane);
+
+    return memcmp(handle, was(HANDLE), at) == 0 && memcmp(lent[HANDLE].at + after, was(HANDLE) + after, sizeof *handle - after) == 0;
+}
+
+/* Of an accepted call's handle only the record of its lane changes: the reserved word and what stands past the lanes are kept. */
+static void test_kept(void)
+{
+    one_in_flight();
+    handle->reserved = 0xDEADBEEF;
+    memset(&handle->lane[LANES], 0xFF, (BTT_MAX_LANES - LANES) * sizeof(struct btt_lane));
+    handle->lane[LANES] = (struct btt_lane){.busy = 1, .block = 60, .half = 1, .sequence = 2, .sector = 3, .old = 3, .made = 0};
+    for (uint32_t lane = 1; lane < 4; lane++) {
+        for (int call = 0; call < (lane == 3 ? 1 : LAST + 2); call++) {
+            CALL(0, lane == 3 || call > 0 ? STEPPED : ONLY(HANDLE), lane == 3 ? write_sector(3, 3) : call > 0 ? step(lane) : start(lane, lane));
+            CHECK(only_lane_changed(lane));
+        }
+        CHECK(handle->lane[lane].busy == 0 && handle->lane[lane].sequence == 3 && handle->lane[lane].half == 0);
+    }
+}
+
+int main(void)
+{
+    static const test tests[] = {test_read, test_start, test_step, test_write, test_looks, test_bad_figures, test_bad_records, test_kept};
+
+    return run("test_calls", tests, COUNT(tests));
+}

@@ -1,0 +1,193 @@
+/*
+ * Making, the info block that counts, opening and cut openings from C: every answer of their rows and the order among them, the empty slice,
+ * and what each must leave as it was.
+ */
+#include "lent.h"
+
+static void test_make(void)
+{
+    static const struct {
+        uint32_t size, sectors, lanes;
+        size_t length, first, second;
+        uint32_t answer;
+    } rows[] = {
+        {512, 60, 4, 49152, 16, 16, 0}, {512, 1, 1, 20480, 16, 16, 0}, {4096, 1, 1, 24576, 16, 16, 0}, {512, 16, 16, 32768, 16, 16, 0},
+        {513, 60, 4, 49152, 16, 16, 3}, {0, 60, 4, 49152, 16, 16, 3}, {512, 3, 4, 24576, 16, 16, 3}, {512, 60, 0, 45056, 16, 16, 3},
+        {512, 60, 17, 57344, 16, 16, 3}, {512, 0, 0, 20480, 16, 16, 3}, {1024, 60, 4, 0, 0, 0, 3},
+        {512, 60, 4, 49151, 16, 16, 1}, {512, 60, 4, 45056, 16, 16, 1}, {512, 60, 4, 53248, 16, 16, 1}, {512, 60, 4, 0, 16, 16, 1},
+        {512, 0xFFFFFFFF, 16, 49152, 16, 16, 1}, {4096, 60, 4, 49152, 16, 16, 1}, {512, 60, 4, 45056, 15, 16, 1},
+        {512, 60, 4, 49152, 15, 16, 10}, {512, 60, 4, 49152, 16, 17, 10}, {512, 60, 4, 49152, 0, 16, 10}, {512, 60, 4, 49152, 16, 0, 10},
+    };
+
+    fresh_case();
+    for (size_t i = 0; i < COUNT(rows); i++) {
+        size_t data = (size_t)rows[i].size * (rows[i].sectors + (size_t)rows[i].lanes);
+
+        lend(ARENA, rows[i].length);
+        lend(FIRST_ID, rows[i].first);
+        lend(SECOND_ID, rows[i].second);
+        CALL(rows[i].answer, rows[i].answer == 0 ? ONLY(ARENA) : NOTHING, make(rows[i].size, rows[i].sectors, rows[i].lanes));
+        if (rows[i].answer == 0) {
+            CHECK(memcmp(arena + 4096, was(ARENA) + 4096, data) == 0);
+            CHECK(memcmp(arena + 16, lent[FIRST_ID].at, 16) == 0 && memcmp(arena + 32, lent[SECOND_ID].at, 16) == 0);
+            CHECK(memcmp(arena, arena + rows[i].length - 4096, 4096) == 0);
+            CHECK(memcmp(arena, "BTT_ARENA_INFO\0", 16) == 0);
+        }
+    }
+}
+
+static void test_info_block(void)
+{
+    static const size_t lengths[] = {0, 16384, 49153, 16777216 + 4096};
+
+    fresh_case();
+    for (int broken = 0; broken < 3; broken++) {
+        arena[100] ^= broken == 1;
+        arena[COPY + 100] ^= broken == 2;
+        CALL(0, ONLY(OFFSET) | ONLY(LENGTH), info_block());
+        CHECK(get_bytes(lent[OFFSET].at, 8) == (broken == 1 ? COPY : 0));
+        CHECK(get_bytes(lent[LENGTH].at, 8) == (broken == 2 ? 0 : 4096));
+    }
+    for (size_t i = 0; i < COUNT(lengths); i++) {
+        lend(ARENA, lengths[i]);
+        CALL(0, ONLY(OFFSET) | ONLY(LENGTH), info_block());
+        CHECK(get_bytes(lent[OFFSET].at, 8) == 0 && get_bytes(lent[LENGTH].at, 8) == 0);
+    }
+}
+
+/* Opening and cut openings must all refuse the arena as it stands: handle and count become 0, and the work buffer ends as it must. */
+static void refused_opening(uint32_t answer)
+{
+    static const uint32_t cuts[] = {0, 1, 16, 0xFFFFFFFF};
+    size_t cleared = answer < 6 ? 0 : BLOCKS;
+    unsigned work = answer < 6 ? NOTHING : ONLY(WORK);
+
+    for (size_t i = 0; i <= COUNT(cuts); i++) {
+        pattern(lent[WORK].at, lent[WORK].length, 5);
+        pattern(lent[MENDED].at, 4, 6);
+        pattern(lent[HANDLE].at, sizeof *handle, 7);
+        if (i < COUNT(cuts)) {
+            CALL(answer, ONLY(MENDED) | work, cut_open(cuts[i]));
+        } else {
+            CALL(answer, OPENED & ~(ONLY(WORK) & ~work), open_arena());
+            CHECK(all_bytes(lent[HANDLE].at, sizeof *handle, 0));
+        }
+        CHECK(mended() == 0);
+        CHECK(all_bytes(lent[WORK].at, cleared, 0));
+        CHECK(memcmp(lent[WORK].at + cleared, was(WORK) + cleared, lent[WORK].length - cleared) == 0);
+    }
+}
+
+static void test_open_lengths(void)
+{
+    static const size_t lengths[] = {0, 1, 4096, 16384, 49151, 49153, 16777216 + 4096};
+    static const size_t rooms[] = {0, 1, 63};
+
+    fresh_case();
+    for (size_t i = 0; i < COUNT(lengths); i++) {
+        lend(ARENA, lengths[i]);
+        refused_opening(1);
+    }
+    lend(ARENA, WHOLE);
+    refused_opening(2);
+    for (size_t i = 0; i < COUNT(rooms); i++) {
+        fresh_case();
+        lend(WORK, rooms[i]);
+        refused_opening(5);
+    }
+}
+
+struct patch {
+    size_t at;
+    unsigned width;
+    uint64_t value;
+};
+
+static const struct {
+    uint32_t answer;
+    struct patch patch[2];
+} damaged[] = {
+    {3, {{52, 2, 1}}}, {3, {{54, 2, 1}}}, {3, {{56, 4, 1024}}}, {3, {{56, 4, 4096}}}, {3, {{60, 4, 3}}}, {3, {{60, 4, 61}}}, {3, {{64, 4, 4096}}},
+    {3, {{68, 4, 63}}}, {3, {{72, 4, 0}}}, {3, {{72, 4, 17}}}, {3, {{76, 4, 512}}}, {3, {{80, 8, 49152}}}, {3, {{88, 8, 0}}}, {3, {{88, 8, 4100}}},
+    {3, {{88, 8, 8192}}}, {3, {{88, 8, 0xFFFFFFFFFFFFF000}}}, {3, {{96, 8, 32768}}}, {3, {{96, 8, 40960}}}, {3, {{104, 8, 36864}}},
+    {3, {{104, 8, 45056}}}, {3, {{112, 8, 40960}}}, {3, {{112, 8, 49152}}}, {3, {{48, 4, 1}, {52, 2, 1}}},
+    {4, {{48, 4, 1}}}, {4, {{48, 4, 0x80000000}, {FLOG + 12, 4, 0}}},
+    {6, {{FLOG + 12, 4, 0}}}, {6, {{FLOG + 12, 4, 4}}}, {6, {{FLOG + 28, 4, 1}}}, {6, {{FLOG + 28, 4, 4}}}, {6, {{FLOG + 192, 4, SECTORS}}},
+    {6, {{FLOG + 196, 4, BLOCKS}}}, {6, {{FLOG + 200, 4, BLOCKS}}}, {6, {{FLOG + 200, 4, BLOCKS}, {MAP, 4, 0xC0000040}}},
+    {7, {{MAP, 4, 0xC0000040}}}, {7, {{MAP + 36, 4, 0x80000040}}}, {7, {{MAP + 236, 4, 0x7FFFFFFF}}},
+    {7, {{MAP, 4, 0xC0000040}, {MAP + 4, 4, 0xC0000007}}},
+    {8, {{MAP + 20, 4, 0xC0000007}}}, {8, {{MAP + 20, 4, 0x80000007}}}, {8, {{FLOG + 4, 4, 61}}}, {8, {{MAP + 28, 4, 0xC000003C}}},
+    {0, {{MAP + 20, 4, 0x00000007}}}, {0, {{MAP + 20, 4, 0x40000005}}}, {0, {{MAP + 20, 4, 0x80000005}}}, {0, {{FLOG + 16, 4, 0xFFFFFFFF}}},
+};
+
+/* The first block has the fault and a fitting checksum, so that the copy, which is faultless, must not count. */
+static void test_open_damaged(void)
+{
+    for (size_t i = 0; i < COUNT(damaged); i++) {
+        fresh_case();
+        lend(WORK, BLOCKS + 9);
+        for (int j = 0; j < 2; j++) {
+            put_bytes(arena + damaged[i].patch[j].at, damaged[i].patch[j].width, damaged[i].patch[j].value);
+        }
+        seal(arena);
+        if (damaged[i].answer == 0) {
+            CALL(0, OPENED, open_arena());
+        } else {
+            refused_opening(damaged[i].answer);
+        }
+    }
+}
+
+static void test_open_gives(void)
+{
+    static const struct btt_lane none;
+
+    fresh_case();
+    arena[0] = 'b';
+    pattern(lent[HANDLE].at, sizeof *handle, 8);
+    lend(WORK, BLOCKS + 1);
+    CALL(0, OPENED, open_arena());
+    CHECK(handle->length == WHOLE && handle->data == DATA && handle->map == MAP && handle->flog == FLOG && handle->copy == COPY);
+    CHECK(handle->size == SIZE && handle->sectors == SECTORS && handle->internal == SIZE && handle->blocks == BLOCKS && handle->lanes == LANES);
+    CHECK(handle->reserved == 0);
+    CHECK(all_bytes(lent[WORK].at, BLOCKS, 0) && lent[WORK].at[BLOCKS] == was(WORK)[BLOCKS]);
+    for (uint32_t i = 0; i < BTT_MAX_LANES; i++) {
+        struct btt_lane lane = {.block = SECTORS + i, .half = 1, .sequence = 2};
+
+        CHECK(memcmp(&handle->lane[i], i < LANES ? &lane : &none, sizeof lane) == 0);
+    }
+}
+
+/* Lanes 0 and 2 lack only their map words: a cut opening stores the first k of them, and counts both. */
+static void test_cut_open(void)
+{
+    static const uint32_t cuts[] = {0, 1, 2, 3, 0xFFFFFFFF};
+
+    for (size_t i = 0; i < COUNT(cuts); i++) {
+        uint32_t left = cuts[i] < 2 ? 2 - cuts[i] : 0;
+
+        fresh_case();
+        for (uint32_t lane = 0; lane < 4; lane += 2) {
+            CALL(0, ONLY(HANDLE), start(lane, 9 - lane));
+            for (int k = 0; k < LAST; k++) {
+                CALL(0, STEPPED, step(lane));
+            }
+        }
+        CALL(0, ONLY(WORK) | ONLY(MENDED) | (cuts[i] > 0 ? ONLY(ARENA) : NOTHING), cut_open(cuts[i]));
+        CHECK(mended() == 2);
+        CHECK(get32(map_word(9)) == (cuts[i] > 0 ? 0xC000003C : 0) && get32(map_word(7)) == (cuts[i] > 1 ? 0xC000003E : 0));
+        put32(lent[ARENA].copy + MAP + 36, get32(map_word(9)));
+        put32(lent[ARENA].copy + MAP + 28, get32(map_word(7)));
+        CHECK(kept(&lent[ARENA], 0));
+        CALL(0, OPENED | (left > 0 ? ONLY(ARENA) : NOTHING), open_arena());
+        CHECK(mended() == left);
+        CHECK(get32(map_word(9)) == 0xC000003C && get32(map_word(7)) == 0xC000003E);
+    }
+}
+
+int main(void)
+{
+    static const test tests[] = {test_make, test_info_block, test_open_lengths, test_open_damaged, test_open_gives, test_cut_open};
+
+    return run("test_opening", tests, COUNT(tests));
+}

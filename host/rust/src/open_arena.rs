@@ -1,0 +1,138 @@
+//! An opened arena as a row of sectors.
+use crate::geometry::MAX_BLOCKS;
+use crate::handle::Handle;
+use crate::{Answer, Arena, Opened};
+
+/// One store of a write, made in the arena's bytes.
+#[derive(Clone, Copy, Debug, PartialEq, Eq)]
+pub struct Store {
+    /// Which store of its write it is, from 1 to [`Handle::steps`]: the last but one is the sequence word, the last the map word.
+    pub number: u32,
+    /// Its byte offset in the arena.
+    pub offset: u64,
+    /// The four bytes stored.
+    pub word: [u8; 4],
+}
+
+/// An opened arena with its latest handle: sectors that are read and written whole.
+///
+/// ```
+/// use btt::{AlignedBytes, Arena, Geometry, Identifiers, OpenArena};
+///
+/// # fn main() -> Result<(), Box<dyn std::error::Error>> {
+/// let mut memory = AlignedBytes::zeroed(49_152);
+/// let mut arena = Arena::new(&mut memory)?;
+/// arena.make(Geometry { size: 512, sectors: 60, lanes: 4 }, Identifiers::ZEROES)?;
+///
+/// let mut opened = OpenArena::open(arena)?;
+/// opened.write_sector(59, &[9; 512])?;
+/// let mut sector = [0; 512];
+/// opened.read_sector(59, &mut sector)?;
+/// assert_eq!(sector, [9; 512]);
+/// # Ok(())
+/// # }
+/// ```
+#[derive(Debug)]
+pub struct OpenArena<'a> {
+    arena: Arena<'a>,
+    handle: Handle,
+    mended: u32,
+}
+
+impl<'a> OpenArena<'a> {
+    /// Opens an arena with a work buffer of its own. Answers 1 to 4 and 6 to 8, as [`Arena::open`] does.
+    pub fn open(mut arena: Arena<'a>) -> Result<OpenArena<'a>, Answer> {
+        let mut work = vec![0; MAX_BLOCKS];
+        let Opened { handle, mended } = arena.open(&mut work)?;
+        Ok(OpenArena { arena, handle, mended })
+    }
+
+    /// The bytes of a sector.
+    pub fn sector_size(&self) -> usize {
+        self.handle.sector_size()
+    }
+
+    /// The number of sectors.
+    pub fn sectors(&self) -> u32 {
+        self.handle.sectors
+    }
+
+    /// The number of lanes that were pending when the arena was opened.
+    pub fn mended(&self) -> u32 {
+        self.mended
+    }
+
+    /// The latest handle.
+    pub fn handle(&self) -> &Handle {
+        &self.handle
+    }
+
+    /// The arena.
+    pub fn arena(&self) -> &Arena<'a> {
+        &self.arena
+    }
+
+    /// Gives back the arena and its latest handle.
+    pub fn into_parts(self) -> (Arena<'a>, Handle) {
+        (self.arena, self.handle)
+    }
+
+    /// Reads a sector. Answers as [`Arena::read`](crate::ArenaRef::read) does.
+    pub fn read_sector(&self, sector: u32, buffer: &mut [u8]) -> Result<(), Answer> {
+        self.arena.read(&self.handle, sector, buffer)
+    }
+
+    /// Writes a sector by a whole write on the first idle lane, for mediums on which [`Arena::write`] withstands a power cut. Answers
+    /// as that does.
+    pub fn write_sector(&mut self, sector: u32, buffer: &[u8]) -> Result<(), Answer> {
+        let lane = self.handle.idle_lane().unwrap_or(0);
+        self.arena.write(&mut self.handle, lane, sector, buffer)
+    }
+
+    /// Writes a sector store by store on the first idle lane. After each store, and before the next, `stored` is told of it, and
+    /// makes it reach the medium: it flushes a cache line, or writes the word to a file.
+    ///
+    /// A refusal comes before any store, and changes nothing. An error of `stored` ends the write there, with its lane busy, as a
+    /// power cut would: open the arena again, from what the medium has.
+    ///
+    /// ```
+    /// # use btt::{AlignedBytes, Answer, Arena, Geometry, Identifiers, OpenArena};
+    /// # let mut memory = AlignedBytes::zeroed(49_152);
+    /// # let mut arena = Arena::new(&mut memory).unwrap();
+    /// # arena.make(Geometry { size: 512, sectors: 60, lanes: 4 }, Identifiers::ZEROES).unwrap();
+    /// # let mut medium = arena.bytes().to_vec();
+    /// let mut opened = OpenArena::open(arena).unwrap();
+    /// opened.write_sector_by_steps(7, &[1; 512], |store| {
+    ///     let at = store.offset as usize;
+    ///     medium[at..at + 4].copy_from_slice(&store.word);
+    ///     Ok::<(), Answer>(())
+    /// })?;
+    /// assert_eq!(medium, opened.arena().bytes());
+    /// # Ok::<(), Answer>(())
+    /// ```
+    pub fn write_sector_by_steps<E: From<Answer>>(
+        &mut self,
+        sector: u32,
+        buffer: &[u8],
+        mut stored: impl FnMut(Store) -> Result<(), E>,
+    ) -> Result<(), E> {
+        let lane = self.handle.idle_lane().unwrap_or(0);
+        let mut handle = self.handle;
+        self.arena.start(&mut handle, lane, sector)?;
+        for number in 1..=handle.steps() {
+            let offset = self.arena.next_store(&handle, lane)?;
+            self.arena.step(&mut handle, lane, buffer)?;
+            self.handle = handle;
+            stored(Store { number, offset, word: self.word(offset) })?;
+        }
+        Ok(())
+    }
+
+    /// The four bytes at an offset that the library gave.
+    fn word(&self, offset: u64) -> [u8; 4] {
+        let at = offset as usize;
+        let mut word = [0; 4];
+        word.copy_from_slice(&self.arena.bytes()[at..at + 4]);
+        word
+    }
+}

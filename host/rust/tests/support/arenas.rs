@@ -1,0 +1,166 @@
+//! Random arenas: made ones, valid ones of any layout, and damaged ones.
+use super::chance::Chance;
+use btt::{Geometry, Handle, Identifiers};
+use plain::{figures_of, info_block, info_block_of, made_figures, put_long, put_word, seal, word};
+
+/// Figures of a small arena, with gaps before the parts now and then.
+pub fn figures(chance: &mut Chance) -> Handle {
+    let size = if chance.once_in(4) { 4096 } else { 512 };
+    let lanes = 1 + chance.below(16) as u32;
+    let sectors = lanes + chance.below(40) as u32;
+    let mut figures = made_figures(Geometry { size, sectors, lanes });
+    let mut gaps = 0;
+    for start in [&mut figures.data, &mut figures.map, &mut figures.flog, &mut figures.copy] {
+        gaps += if chance.once_in(3) { 4096 * chance.below(3) as u64 } else { 0 };
+        *start += gaps;
+    }
+    figures.length += gaps;
+    figures
+}
+
+/// A map word for a sector that has this block.
+fn map_word(chance: &mut Chance, sector: usize, block: usize) -> u32 {
+    let flags = 1 + chance.below(3) as u32;
+    if sector == block && !chance.once_in(4) {
+        let low = if chance.once_in(2) { chance.word() & 0x3FFF_FFFF } else { 0 };
+        return low;
+    }
+    flags << 30 | block as u32
+}
+
+/// A valid arena whose lanes are pending now and then.
+pub fn valid(chance: &mut Chance) -> Vec<u8> {
+    let f = figures(chance);
+    let mut arena = chance.bytes(f.length as usize);
+    let blocks = spread(chance, &f);
+    let (mapped, free) = blocks.split_at(f.sectors as usize);
+    for (sector, block) in mapped.iter().enumerate() {
+        let value = map_word(chance, sector, *block);
+        put_word(&mut arena, f.map as usize + 4 * sector, value);
+    }
+    let mut sectors: Vec<usize> = (0..mapped.len()).collect();
+    chance.shuffle(&mut sectors);
+    for (lane, old) in free.iter().enumerate() {
+        let sector = sectors[lane];
+        let mut new = chance.below(blocks.len());
+        if chance.once_in(3) {
+            new = mapped[sector];
+            let found = map_word(chance, sector, *old);
+            put_word(&mut arena, f.map as usize + 4 * sector, found);
+        }
+        put_lane(chance, &mut arena[f.flog as usize + 64 * lane..][..64], [sector, *old, new]);
+    }
+    put_info_blocks(chance, &mut arena, &f);
+    arena
+}
+
+/// The blocks of the sectors and then those of the lanes: every block once, many where they were made.
+fn spread(chance: &mut Chance, f: &Handle) -> Vec<usize> {
+    let mut blocks: Vec<usize> = (0..f.blocks as usize).collect();
+    match chance.below(3) {
+        0 => chance.shuffle(&mut blocks),
+        1 => {
+            for _ in 0..chance.below(8) {
+                let pair = (chance.below(blocks.len()), chance.below(blocks.len()));
+                blocks.swap(pair.0, pair.1);
+            }
+        }
+        _ => {}
+    }
+    blocks
+}
+
+/// The flog pair of a lane whose newer half is of these numbers.
+fn put_lane(chance: &mut Chance, pair: &mut [u8], half: [usize; 3]) {
+    let which = chance.below(2);
+    let sequence = 1 + chance.below(3) as u32;
+    let older = if chance.once_in(3) { 0 } else { [3, 1, 2][sequence as usize - 1] };
+    for (i, value) in half.into_iter().enumerate() {
+        put_word(pair, 16 * which + 4 * i, value as u32);
+    }
+    put_word(pair, 16 * which + 12, sequence);
+    put_word(pair, 16 * (1 - which) + 12, older);
+}
+
+/// Both info blocks, one of them spoilt now and then.
+fn put_info_blocks(chance: &mut Chance, arena: &mut [u8], f: &Handle) {
+    let mut block = info_block_of(f, Identifiers { own: &chance.bytes(16), parent: &chance.bytes(16) });
+    if chance.once_in(2) {
+        chance.fill(&mut block[120..4088]);
+        seal(&mut block);
+    }
+    let copy = arena.len() - 4096;
+    let spoilt = chance.below(6);
+    if spoilt != 0 {
+        arena[..4096].copy_from_slice(&block);
+    }
+    if spoilt != 1 {
+        arena[copy..].copy_from_slice(&block);
+    }
+}
+
+/// Numbers at which rules turn.
+fn telling(chance: &mut Chance, f: &Handle) -> u32 {
+    let edges = [0, 1, 2, 3, 4, 5, 16, 17, 512, 4096, f.sectors, f.blocks, f.lanes, u32::MAX, 1 << 30, 1 << 31, 3 << 30];
+    let edge = chance.pick(&edges);
+    match chance.below(4) {
+        0 => chance.word(),
+        1 => edge.wrapping_sub(1),
+        2 => edge.wrapping_add(chance.pick(&[0, 1, 1 << 30, 2 << 30, 3 << 30])),
+        _ => edge,
+    }
+}
+
+/// Damages an arena at one or two places.
+pub fn damage(chance: &mut Chance, arena: &mut Vec<u8>) {
+    for _ in 0..1 + chance.below(2) {
+        let Some(at) = info_block(arena) else {
+            return;
+        };
+        let f = figures_of(&arena[at..at + 4096], arena.len());
+        let inside =
+            |start: u64, unit: u64, count: u32| count > 0 && start.saturating_add(unit * u64::from(count)) <= arena.len() as u64;
+        let value = telling(chance, &f);
+        match chance.below(8) {
+            0 => damage_info(chance, &mut arena[at..at + 4096], value),
+            1 | 2 if inside(f.map, 4, f.sectors) => {
+                let sector = chance.below(f.sectors as usize);
+                put_word(arena, f.map as usize + 4 * sector, value);
+            }
+            3..=5 if inside(f.flog, 64, f.lanes) => {
+                let place = 16 * chance.below(f.lanes as usize) + chance.below(8);
+                put_word(arena, f.flog as usize + 4 * place, value);
+            }
+            6 => {
+                let place = chance.below(arena.len());
+                arena[place] ^= 1 << chance.below(8);
+            }
+            7 if chance.once_in(4) => {
+                let length =
+                    chance.pick(&[0, 1, 4095, 4096, 16384, 20480, arena.len() - 4096, arena.len() + 4096, arena.len() + 1]);
+                arena.resize(length, 0);
+            }
+            _ => arena[at..at + 120].copy_within(chance.below(100)..100, 20),
+        }
+    }
+}
+
+/// Changes a field of an info block, and puts the checksum right in most cases.
+fn damage_info(chance: &mut Chance, block: &mut [u8], value: u32) {
+    let field = chance.below(20);
+    match field {
+        0..=7 => put_word(block, 48 + 4 * field, value),
+        8..=12 => {
+            let at = 80 + 8 * (field - 8);
+            let start = u64::from(word(block, at));
+            let far =
+                [start + 4096, start.wrapping_sub(4096), start + 1, 0, 4096, 1 << 32, 0u64.wrapping_sub(4096), u64::from(value)];
+            put_long(block, at, chance.pick(&far));
+        }
+        13 => block[chance.below(16)] ^= 1,
+        _ => put_word(block, 52, chance.pick(&[0, 1, 2, 3, 0x1_0002, 0x2_0000])),
+    }
+    if !chance.once_in(5) {
+        seal(block);
+    }
+}

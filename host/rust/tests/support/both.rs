@@ -1,0 +1,136 @@
+//! The library and the plain program side by side: each call is made on both, and everything that it gives or leaves is compared.
+use super::number;
+use btt::{AlignedBytes, Answer, Arena, ArenaRef, Geometry, Handle, Identifiers, Opened};
+use std::fmt::Debug;
+
+/// An arena and a handle in the library's hands, and the same arena in the plain program's.
+#[derive(Clone)]
+pub struct Both {
+    pub arena: AlignedBytes,
+    pub plain: Vec<u8>,
+    pub handle: Handle,
+}
+
+impl Both {
+    pub fn new(arena: &[u8]) -> Both {
+        Both { arena: arena.into(), plain: arena.to_vec(), handle: Handle::default() }
+    }
+
+    fn lent(&mut self) -> Arena<'_> {
+        Arena::new(&mut self.arena).unwrap()
+    }
+
+    fn view(&self) -> ArenaRef<'_> {
+        ArenaRef::new(&self.arena).unwrap()
+    }
+
+    /// Compares what a call gave and left, and gives its number.
+    #[track_caller]
+    fn same<T: Debug + PartialEq>(&self, call: &str, found: Result<T, Answer>, expected: Result<T, Answer>) -> u32 {
+        assert_eq!(found, expected, "{call} gives");
+        assert!(self.arena[..] == self.plain[..], "{call} leaves the arena");
+        number(&found)
+    }
+
+    /// The same for a call that may change the handle; the library's is kept.
+    #[track_caller]
+    fn same_handle(&mut self, call: &str, found: (Result<(), Answer>, Handle), expected: (Result<(), Answer>, Handle)) -> u32 {
+        assert!(found.1 == expected.1, "{call} leaves the handle");
+        self.handle = found.1;
+        self.same(call, found.0, expected.0)
+    }
+
+    #[track_caller]
+    pub fn make(&mut self, geometry: Geometry, own: &[u8], parent: &[u8]) -> u32 {
+        let found = self.lent().make(geometry, Identifiers { own, parent });
+        let expected = plain::make(&mut self.plain, geometry, Identifiers { own, parent });
+        self.same("make", found, expected)
+    }
+
+    #[track_caller]
+    pub fn info_block(&self) {
+        let found = self.view().info_block().map(|block| (block.as_ptr(), block.len()));
+        let expected = plain::info_block(&self.plain).map(|at| (self.arena[at..].as_ptr(), 4096));
+        assert_eq!(found, expected, "the caller's own bytes");
+    }
+
+    /// Opens the arena; the handle is the one that opening gives, and as it was after a refusal.
+    #[track_caller]
+    pub fn open(&mut self, work: &[u8]) -> u32 {
+        let (mut work, mut plain_work) = (work.to_vec(), work.to_vec());
+        let found = self.lent().open(&mut work);
+        let expected = plain::open(&mut self.plain, &mut plain_work);
+        assert_eq!(work, plain_work, "open leaves the work buffer");
+        if let Ok(Opened { handle, .. }) = found {
+            self.handle = handle;
+        }
+        self.same("open", found, expected)
+    }
+
+    #[track_caller]
+    pub fn cut_open(&mut self, work: &[u8], k: u32) -> u32 {
+        let (mut work, mut plain_work) = (work.to_vec(), work.to_vec());
+        let found = self.lent().cut_open(&mut work, k);
+        let expected = plain::cut_open(&mut self.plain, &mut plain_work, k);
+        assert_eq!(work, plain_work, "cut_open leaves the work buffer");
+        self.same("cut_open", found, expected)
+    }
+
+    #[track_caller]
+    pub fn read(&self, sector: u32, buffer: &mut [u8]) -> u32 {
+        let mut plain_buffer = buffer.to_vec();
+        let found = self.view().read(&self.handle, sector, buffer);
+        let expected = plain::read(&self.plain, &self.handle, sector, &mut plain_buffer);
+        assert!(buffer[..] == plain_buffer[..], "read leaves the buffer");
+        self.same("read", found, expected)
+    }
+
+    #[track_caller]
+    pub fn start(&mut self, lane: u32, sector: u32) -> u32 {
+        let (mut handle, mut plain_handle) = (self.handle, self.handle);
+        let found = self.view().start(&mut handle, lane, sector);
+        let expected = plain::start(&self.plain, &mut plain_handle, lane, sector);
+        self.same_handle("start", (found, handle), (expected, plain_handle))
+    }
+
+    #[track_caller]
+    pub fn step(&mut self, lane: u32, buffer: &[u8]) -> u32 {
+        let (mut handle, mut plain_handle) = (self.handle, self.handle);
+        let found = self.lent().step(&mut handle, lane, buffer);
+        let expected = plain::step(&mut self.plain, &mut plain_handle, lane, buffer);
+        self.same_handle("step", (found, handle), (expected, plain_handle))
+    }
+
+    #[track_caller]
+    pub fn write(&mut self, lane: u32, sector: u32, buffer: &[u8]) -> u32 {
+        let (mut handle, mut plain_handle) = (self.handle, self.handle);
+        let found = self.lent().write(&mut handle, lane, sector, buffer);
+        let expected = plain::write(&mut self.plain, &mut plain_handle, lane, sector, buffer);
+        self.same_handle("write", (found, handle), (expected, plain_handle))
+    }
+
+    #[track_caller]
+    pub fn lane(&self, lane: u32) -> u32 {
+        let found = self.view().lane(&self.handle, lane);
+        self.same("lane", found, plain::lane(&self.plain, &self.handle, lane))
+    }
+
+    #[track_caller]
+    pub fn next_store(&self, lane: u32) -> u32 {
+        let found = self.view().next_store(&self.handle, lane);
+        self.same("next_store", found, plain::next_store(&self.plain, &self.handle, lane))
+    }
+
+    /// Makes each call that takes a handle on a copy, with these numbers, and gives the answers.
+    #[track_caller]
+    pub fn every_call(&self, lane: u32, sector: u32, buffer: &[u8]) -> [u32; 6] {
+        [
+            self.read(sector, &mut buffer.to_vec()),
+            self.clone().start(lane, sector),
+            self.clone().step(lane, buffer),
+            self.clone().write(lane, sector, buffer),
+            self.lane(lane),
+            self.next_store(lane),
+        ]
+    }
+}

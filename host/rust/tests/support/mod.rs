@@ -1,0 +1,30 @@
+//! What the tests share: the library and the plain program side by side, random arenas, and a place to run the command in.
+#![allow(dead_code)]
+pub mod arenas;
+pub mod both;
+pub mod chance;
+pub mod folder;
+pub mod place;
+
+use btt::{AlignedBytes, Answer, Geometry, Identifiers, MAX_BLOCKS};
+
+/// The figures of the worked cases, and the length of their arena.
+pub const GEOMETRY: Geometry = Geometry { size: 512, sectors: 60, lanes: 4 };
+pub const LENGTH: usize = 49_152;
+
+/// The number of a result.
+pub fn number<T>(result: &Result<T, Answer>) -> u32 {
+    result.as_ref().err().map_or(0, |answer| answer.number())
+}
+
+/// An arena as the plain program makes it, with identifiers of zeroes.
+pub fn made(geometry: Geometry) -> AlignedBytes {
+    let mut arena = AlignedBytes::zeroed(plain::made_figures(geometry).length as usize);
+    plain::make(&mut arena, geometry, Identifiers::ZEROES).unwrap();
+    arena
+}
+
+/// How many lanes of a valid arena are pending, by the plain program; the arena is not changed.
+pub fn pending(arena: &[u8]) -> Result<u32, Answer> {
+    plain::cut_open(&mut arena.to_vec(), &mut vec![0; MAX_BLOCKS], 0)
+}
