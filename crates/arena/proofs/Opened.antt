@@ -7,6 +7,7 @@ use native.Mathlib.Omega.{arith}
 use lib.Dec.{eqb}
 use lib.ListN.{length}
 use borrow.Author.Tests.{eqb-true, eqb-false}
+use Rattle.words.specs.Bytes.{Small}
 use Rattle.format.specs.MapWord.{badWord}
 use Rattle.format.proofs.Tests.{every-intro, some-intro}
 use Rattle.layout.specs.Figures.{maxLanes}
@@ -30,7 +31,6 @@ use Rattle.machine.specs.calls.Opening.{
   openOf,
   handleFor,
 }
-use Rattle.machine.specs.words.InBytes.{Small}
 use Rattle.machine.proofs.stores.Stores.{putAll-length}
 use Rattle.machine.proofs.opening.Ghosts.{Consistent}
 use Rattle.machine.proofs.opening.Consistent.{consistent-kept, found-kept}

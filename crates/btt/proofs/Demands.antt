@@ -2,13 +2,13 @@
 use mathlib.Core.Path.{_≡_, refl, sym, ap, _∙_, subst}
 use mathlib.Core.List.{List, [], _∷_}
 use Prim.Native.Nat.{ℕ}
+use Rattle.words.specs.Bytes.{Small}
 use Rattle.layout.specs.Told.{alone}
 use Rattle.machine.specs.calls.Opening.{figuresIn, openOf}
 use Rattle.machine.specs.calls.History.{Call, State, Event, SmallEvents, openedFrom}
 use Rattle.machine.specs.calls.Asides.{Happening, latest, latestOf, afterOne, AllHarmless}
 use Rattle.machine.specs.models.Row.{OneBuffer, firstRow}
 use Rattle.machine.specs.models.Book.{bookAfter}
-use Rattle.machine.specs.words.InBytes.{Small}
 use Rattle.machine.specs.claims.DemandTwo.{FollowsRow}
 use Rattle.machine.specs.claims.DemandThree.{Listed, AsBooked, AfterCut, Promised}
 use Rattle.machine.proofs.opening.Described.{told-alone}

@@ -1,6 +1,6 @@
 -- The handle that opening gives fits its bytes: its figures are bounded by the arena's length, and its records are read off words.
 use mathlib.Core.Path.{_≡_, _∙_}
-use mathlib.Core.Logic.{_≢_, ⊎-elim}
+use mathlib.Core.Logic.{_≢_}
 use mathlib.Core.Bool.{Bool, true, false, cond}
 use mathlib.Core.List.{List}
 use Prim.Native.Nat.{ℕ, _+_, _-_, _≤_, _<_}
@@ -9,24 +9,26 @@ use native.Mathlib.Decide.{decLt}
 use lib.Dec.{eqb}
 use lib.ListN.{length, drop, replicate, length-append, length-drop, length-replicate, List·getD-append}
 use borrow.Author.Tests.{ne-eqb}
+use Rattle.words.specs.Bytes.{Small}
 use Rattle.format.specs.Sequence.{successor}
-use Rattle.layout.specs.Figures.{maxLanes, Allowed}
+use Rattle.layout.specs.Figures.{maxLanes}
 use Rattle.layout.specs.Told.{alone}
-use Rattle.layout.specs.declared.Figures.{Figures}
+use Rattle.layout.proofs.Allowed.{allowed-fits}
 use Rattle.machine.specs.state.Handle.{Handle, laneAt}
 use Rattle.machine.specs.state.Lane.{noLane}
 use Rattle.machine.specs.state.Packed.{packedUp}
 use Rattle.machine.specs.calls.Opening.{figuresIn, openOf}
 use Rattle.machine.specs.claims.Opening.{HandleAsFound}
-use Rattle.machine.specs.words.InBytes.{Small, oldIn, newerIn, sequenceIn, flogByte}
+use Rattle.machine.specs.words.InBytes.{oldIn, newerIn, sequenceIn, flogByte}
 use Rattle.machine.specs.words.Records.{Idle}
 use Rattle.machine.specs.words.Valid.{Valid}
 use Rattle.machine.specs.declared.lane.Lane.{Lane}
 use Rattle.machine.proofs.calls.Packing.{packing-claim}
+use Rattle.machine.proofs.calls.Records.{idle-fields}
 use Rattle.machine.proofs.opening.Described.{told-alone}
 use Rattle.machine.proofs.opening.Opening.{opening-claim}
 use Rattle.handlebytes.specs.Bytes.{handleBytes}
-use Rattle.handlebytes.specs.Stands.{RecordFits, FiguresFit, HandleFits}
+use Rattle.handlebytes.specs.Stands.{RecordFits, HandleFits}
 use Rattle.handlebytes.proofs.Whole.{encoded-stands}
 use Rattle.btt.specs.Calls.{bttOpenOf}
 use Rattle.btt.specs.Host.{HoldsHandle}
@@ -42,45 +44,27 @@ successor-small x = go (eqb x 1) (eqb x 2)
     go false true = omega arith
     go false false = omega arith
 
-pub idle-fits : (x y z : ℕ) (r : Lane) → Idle x (1 - y) (successor z) r → x < 4294967296 → RecordFits r
-idle-fits x y z r i u = record {
+idle-small : (b h q : ℕ) (r : Lane) → Idle b h q r → b < 4294967296 → h < 4294967296 → q < 4294967296 → RecordFits r
+idle-small b h q r i u v w = record {
   busy = omega (arith, i .busy);
   block = omega (arith, i .block);
   half = omega (arith, i .half);
-  sequence = omega (arith, i .sequence, successor-small z);
+  sequence = omega (arith, i .sequence);
   sector = omega (arith, i .sector);
   old = omega (arith, i .old);
   made = omega (arith, i .made);
 }
 
+pub idle-fits : (x y z : ℕ) (r : Lane) → Idle x (1 - y) (successor z) r → x < 4294967296 → RecordFits r
+idle-fits x y z r i u = idle-small x (1 - y) (successor z) r i u (omega arith) (omega (arith, successor-small z))
+
+zero-fits : (r : Lane) → Idle 0 0 0 r → RecordFits r
+zero-fits r i = idle-small 0 0 0 r i (omega arith) (omega arith) (omega arith)
+
 pub no-lane-fits : RecordFits noLane
-no-lane-fits = record {
-  busy = omega arith;
-  block = omega arith;
-  half = omega arith;
-  sequence = omega arith;
-  sector = omega arith;
-  old = omega arith;
-  made = omega arith;
-}
+no-lane-fits = zero-fits noLane (idle-fields 0 0 0)
 
 -- ---- opening
-
-figures-fit : (f : Figures) (n : ℕ) → Allowed f n → n ≤ 16777216 → FiguresFit f
-figures-fit f n a u =
-    let s : f .size ≤ 4096 = ⊎-elim (λ x. omega arith) (λ x. omega arith) (a .size) in
-    let d : f .dataoff ≤ f .mapoff = omega (arith, a .data-end) in
-    record {
-      size = omega arith;
-      sectors = omega arith;
-      internal = omega arith;
-      blocks = omega arith;
-      lanes = omega arith;
-      dataoff = omega arith;
-      mapoff = omega arith;
-      flogoff = omega arith;
-      copyoff = omega arith;
-    }
 
 module _ (a work : List ℕ) (small : Small a) (z : (openOf alone a work) .number ≡ 0) where
   abbrev h : Handle
@@ -109,7 +93,7 @@ module _ (a work : List ℕ) (small : Small a) (z : (openOf alone a work) .numbe
           let v : l < length (h .lanes) = omega (arith, found .count) in
           rw (List·getD-append (h .lanes) (drop (length (h .lanes)) (replicate maxLanes noLane)) noLane l v)
           (idle-fits (oldIn a l) (newerIn a l) (sequenceIn a l) _ (found .lanes l u .idle) (old-word l))
-      go (no u) = rw (packing-claim .zero a work l (rw (found .figures) (omega arith))) no-lane-fits
+      go (no u) = zero-fits _ (packing-claim .zero a work l (rw (found .figures) (omega arith)))
 
   records-are : length ((packedUp h) .lanes) ≡ maxLanes
   records-are =
@@ -119,7 +103,7 @@ module _ (a work : List ℕ) (small : Small a) (z : (openOf alone a work) .numbe
   opened-fits : HandleFits (packedUp h)
   opened-fits = record {
     total = rw (found .size) (omega (arith, valid .size .most));
-    figures = rw (found .figures) (figures-fit (figuresIn a) (length a) (valid .figures .figures) (valid .size .most));
+    figures = rw (found .figures) (allowed-fits (figuresIn a) (length a) (valid .figures .figures) (valid .size .most));
     records = records-are;
     lanes = λ l u. lane-fits l;
   }

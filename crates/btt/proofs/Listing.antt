@@ -6,6 +6,7 @@ use Prim.Native.Nat.{ℕ, zero, suc}
 use lib.Dec.{eqb}
 use borrow.Author.Tests.{eqb-true, eqb-false}
 use Rattle.words.proofs.Laws.{putWord-bytes}
+use Rattle.words.specs.Bytes.{Small}
 use Rattle.format.proofs.Tests.{by-bool}
 use Rattle.layout.specs.Told.{alone}
 use Rattle.machine.specs.state.Handle.{Handle, laidOut}
@@ -31,7 +32,6 @@ use Rattle.machine.specs.calls.History.{
   replyEvent,
   openedFrom,
 }
-use Rattle.machine.specs.words.InBytes.{Small}
 use Rattle.machine.proofs.rules.Runs.{runs-related, says-alike}
 use Rattle.machine.proofs.calls.Accepted.{step-found}
 use Rattle.machine.proofs.calls.Running.{handle-fit}

@@ -4,13 +4,14 @@ use mathlib.Core.Path.{_≡_, refl, sym, ap, _∙_}
 use mathlib.Core.Logic.{_≢_}
 use mathlib.Core.Bool.{Bool, true, false, cond}
 use mathlib.Core.List.{List}
-use Prim.Native.Nat.{ℕ, zero, suc, _+_, _≤_, _<_}
+use Prim.Native.Nat.{ℕ, zero, suc, _+_, _-_, _≤_, _<_}
 use native.Mathlib.Omega.{arith}
 use native.Mathlib.Decide.{decLt}
 use lib.Dec.{eqb}
 use lib.ListN.{length, take, length-set, length-take, List·getD-eq-default}
 use lib.Seq.{getD-set-same, set-getD, set-set, length-take-le, take-set-lt}
 use borrow.Author.Tests.{eqb-true, eqb-false}
+use Rattle.format.specs.Sequence.{successor}
 use Rattle.format.specs.MapWord.{flagsOf, lowBits, blockOf}
 use Rattle.format.proofs.Tests.{by-bool}
 use Rattle.layout.specs.Figures.{maxLanes}
@@ -33,6 +34,7 @@ use Rattle.machine.specs.calls.Writing.{
 }
 use Rattle.machine.specs.declared.lane.Lane.{Lane}
 use Rattle.machine.specs.declared.handle.Handle as packed
+use Rattle.machine.proofs.calls.Records.{idle-fields}
 use Rattle.machine.proofs.calls.Accepted.{start-found, step-found, write-found}
 use Rattle.machine.proofs.calls.Rule16.{lane-taken}
 use Rattle.machine.proofs.calls.Running.{running-claim, handle-fit}
@@ -104,7 +106,7 @@ stored-fits g r f u = go (eqb (r .made + 1) (writeStores g))
     go : (t : Bool) → RecordFits (cond t (finishedLane r) (storedLane r))
     go true =
         idle-fits (r .old .0) (r .half) (r .sequence .0) (finishedLane r)
-        (record { busy = refl; block = refl; half = refl; sequence = refl; sector = refl; old = refl; made = refl }) (f .old)
+        (idle-fields (r .old .0) (1 - r .half) (successor (r .sequence .0))) (f .old)
     go false = record {
       busy = f .busy;
       block = f .block;

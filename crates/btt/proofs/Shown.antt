@@ -10,33 +10,38 @@ use lib.Dec.{eqb, ltb}
 use lib.ListN.{length, getD, take, drop, length-drop}
 use lib.Seq.{take-all}
 use borrow.Author.Tests.{eq-eqb, ne-eqb}
-use Rattle.words.specs.Word.{word}
 use Rattle.words.proofs.Laws.{getD-putWord-other}
 use Rattle.words.proofs.Runs.{getD-putWords-out}
+use Rattle.words.specs.Bytes.{Small, byteWord}
 use Rattle.reading.proofs.Copies.{copied}
 use Rattle.format.proofs.Tests.{by-bool}
+use Rattle.format.proofs.Below.{below-take, below-drop}
 use Rattle.infoblock.specs.Info.{sound, infoBlockOf, countsOf}
+use Rattle.infoblock.specs.Claims.{Sound}
+use Rattle.infoblock.proofs.InBytes.{sound-claim}
 use Rattle.judge.specs.Judge.{infoPartOf}
 use Rattle.judge.proofs.Parts.{main-part, copy-part, no-part}
-use Rattle.layout.specs.Figures.{maxLanes, lengthAllowed}
+use Rattle.layout.specs.Figures.{lengthAllowed}
+use Rattle.layout.specs.Claims.{Length}
 use Rattle.layout.specs.Place.{Layout, at}
+use Rattle.layout.proofs.InBytes.{allowed-claim}
 use Rattle.machine.specs.Rules.{FirstOf}
 use Rattle.machine.specs.state.Handle.{Handle, laneAt, laidOut, handleAllowed}
 use Rattle.machine.specs.calls.Order.{read, start, step, write, number}
 use Rattle.machine.specs.calls.Reading.{readOf}
 use Rattle.machine.specs.calls.Writing.{Outcome, Plan, planOf, storeAt, stepNumber, startOf, stepOf, writeOf}
-use Rattle.machine.specs.words.InBytes.{Small}
 use Rattle.machine.specs.words.Running.{Holds}
 use Rattle.machine.specs.declared.lane.Lane.{Lane}
 use Rattle.machine.proofs.rules.Rules.{stop}
 use Rattle.machine.proofs.rules.Running.{call-walk}
 use Rattle.machine.proofs.calls.Rule16.{lane-taken}
 use Rattle.machine.proofs.calls.Running.{handle-ok, first-holds, running-claim}
-use Rattle.handlebytes.specs.Bytes.{recordAt, decodeRecord, decodeFigures, decodeHandle, recordWords}
-use Rattle.handlebytes.proofs.Round.{lane-at, record-again}
-use Rattle.btt.specs.Calls.{partSpan, bttInfoBlockOf, handleIn, bttReadOf, bttOf, bttStartOf, bttStepOf, bttWriteOf}
+use Rattle.handlebytes.specs.Bytes.{recordAt, decodeHandle, recordWords}
+use Rattle.handlebytes.proofs.Offsets.{head-at, lane-from}
+use Rattle.handlebytes.proofs.Round.{record-again}
+use Rattle.btt.specs.Calls.{span, partSpan, bttInfoBlockOf, handleIn, bttReadOf, bttOf, bttStartOf, bttStepOf, bttWriteOf}
 use Rattle.btt.specs.Calls.{laneOrder, nextOrder, laneNumber, bttLaneOf, nextNumber, nextOffset, bttNextStoreOf}
-use Rattle.btt.specs.Host.{HoldsHandle, Untouched, AllBadHandle, OnlyAt, ToldPlace}
+use Rattle.btt.specs.Host.{HoldsHandle, InfoPlace, Untouched, AllBadHandle, OnlyAt, ToldPlace}
 use Rattle.btt.proofs.Rules.{few, lane-found, lane-walk, next-walk, step-next}
 
 -- ---- the info block
@@ -65,6 +70,40 @@ info-shown a = go (infoPartOf a) refl (part-small a)
     go (suc (suc zero)) e u = no-part a e
     go (suc (suc (suc k))) e u = absurd (omega arith)
 
+-- which of the two counts, and so where
+module _ (a : List ℕ) (small : Small a) where
+  pub info-placed : InfoPlace a
+  unfolding bttInfoBlockOf infoPartOf
+  info-placed =
+      record {
+        first = λ k s. rw (allowed k, sound-claim .main main copy s .0);
+        copy = λ k n s. rw (allowed k, sound-claim .copy main copy main-small n s .0);
+        neither = neither;
+        no-arena = λ n. rw (forbidden n);
+      }
+    where
+      main : List ℕ
+      main = take 4096 a
+
+      copy : List ℕ
+      copy = drop (length a - 4096) a
+
+      main-small : Small main
+      main-small = below-take 256 4096 a (omega arith) small
+
+      copy-small : Small copy
+      copy-small = below-drop 256 (length a - 4096) a small
+
+      allowed : Length (length a) → lengthAllowed (length a) ≡ true
+      allowed = allowed-claim .length-back (length a)
+
+      forbidden : (Length (length a) → ⊥) → lengthAllowed (length a) ≡ false
+      forbidden n = by-bool (lengthAllowed (length a)) _ (λ e. absurd (n (allowed-claim .length (length a) e))) (λ e. e)
+
+      neither : (Sound main → ⊥) → (Sound copy → ⊥) → bttInfoBlockOf a ≡ span 0 0
+      neither n o =
+          by-bool (lengthAllowed (length a)) _ (λ e. rw (e, sound-claim .none main copy main-small copy-small n o .0)) (λ e. rw e)
+
 -- ---- refusals
 
 pub read-left : (a b : List ℕ) (s : ℕ) (buffer : List ℕ) → (bttReadOf a b s buffer) .number ≢ 0 → (bttReadOf a b s buffer) .buffer ≡ buffer
@@ -85,18 +124,27 @@ module _ (a b : List ℕ) (l : ℕ) where
   pub write-left : (s : ℕ) (buffer : List ℕ) → (bttWriteOf a b l s buffer) .number ≢ 0 → Untouched a b (bttWriteOf a b l s buffer)
   write-left s buffer = left _ (λ n. running-claim .write-refused a (handleIn b) l s buffer n .arena)
 
+module _ (a b : List ℕ) (l : ℕ) where
+  pub lane-left : (out : List ℕ) → (bttLaneOf a b l out) .number ≢ 0 → (bttLaneOf a b l out) .out ≡ out
+  unfolding bttLaneOf
+  lane-left out z = rw (ne-eqb (laneNumber a (handleIn b) l) 0 z)
+
+  pub next-left : (offset : ℕ) → (bttNextStoreOf a b l offset) .number ≢ 0 → (bttNextStoreOf a b l offset) .offset ≡ offset
+  unfolding bttNextStoreOf
+  next-left offset z = rw (ne-eqb (nextNumber a (handleIn b) l) 0 z)
+
 -- ---- a busy word other than 0 and 1
 
-module _ (a b : List ℕ) (l : ℕ) (u : l < maxLanes) (v : l < (decodeFigures b) .lanes) (w : 2 ≤ word b (recordAt l)) where
+module _ (a b : List ℕ) (l : ℕ) (u : l < 16) (m : l < byteWord b 56) (w : 2 ≤ byteWord b (64 + 28 * l)) where
+  v : l < (decodeHandle b) .figures .lanes
+  v = rw (head-at b .lanes) m
+
   -- the record that the handle has for the lane
-  busy-is : laneAt ((handleIn b) .lanes) l .busy ≡ word b (recordAt l)
-  unfolding decodeHandle decodeRecord
+  busy-is : laneAt ((handleIn b) .lanes) l .busy ≡ byteWord b (64 + 28 * l)
   busy-is =
-      ap (λ (r : Lane). r .busy)
-      (lane-taken ((decodeHandle b) .lanes) ((decodeFigures b) .lanes) l v ∙ lane-at b maxLanes l u)
+      ap (λ (r : Lane). r .busy) (lane-taken ((decodeHandle b) .lanes) ((decodeHandle b) .figures .lanes) l v) ∙ lane-from b l u .busy
 
   not-allowed : handleAllowed (handleIn b) (length a) ≡ false
-  unfolding decodeHandle
   not-allowed =
       by-bool (handleAllowed (handleIn b) (length a)) _
       (λ t. let k = handle-ok (handleIn b) (length a) t .lanes l v in
@@ -118,10 +166,10 @@ module _ (a b : List ℕ) (l : ℕ) (u : l < maxLanes) (v : l < (decodeFigures b
 
 -- ---- what an accepted call changes of the handle's bytes
 
-pub record-only : (b : List ℕ) (l : ℕ) (o : Outcome) → OnlyAt (4 * recordAt l) 28 b ((bttOf b l o) .handle)
+pub record-only : (b : List ℕ) (l : ℕ) (o : Outcome) → OnlyAt (64 + 28 * l) 28 b ((bttOf b l o) .handle)
 unfolding bttOf recordWords
 record-only b l o j h =
-    let out : (j < 4 * recordAt l) ⊎ (4 * (recordAt l + 7) ≤ j) = ⊎-elim (λ x. inl x) (λ x. inr (omega arith)) h in
+    let out : (j < 4 * recordAt l) ⊎ (4 * (recordAt l + 7) ≤ j) = ⊎-elim (λ x. inl (omega arith)) (λ x. inr (omega arith)) h in
     by-bool (eqb (o .number) 0) (getD ((bttOf b l o) .handle) j 0 ≡ getD b j 0)
     (λ t. rw t (getD-putWords-out (recordWords (laneAt (o .handle .lanes) l)) b (recordAt l) j out)) (λ t. rw t)
 
@@ -138,15 +186,16 @@ unfolding bttNextStoreOf nextNumber
 next-answered a b h l offset s = rw (s .is) (first-holds a h (nextOrder l))
 
 pub lane-shown : (a b : List ℕ) (h : Handle) (l : ℕ) (out : List ℕ) → HoldsHandle b h → Small out → length out ≡ 28
-    → (bttLaneOf a b l out) .number ≡ 0 → (bttLaneOf a b l out) .out ≡ take 28 (drop (4 * recordAt l) b)
+    → (bttLaneOf a b l out) .number ≡ 0 → (bttLaneOf a b l out) .out ≡ take 28 (drop (64 + 28 * l) b)
 unfolding bttLaneOf
 lane-shown a b h l out s small size z =
     let p = decodeHandle b in
     let f = lane-found a (handleIn b) l z in
     let u = few (handleIn b) _ l (f .handle) (f .lane) in
     let r = record-again b p l (record { size = s .size; small = s .small; is = refl }) u in
+    let e : 4 * recordAt l ≡ 64 + 28 * l = omega arith in
     rw (z, lane-taken (p .lanes) (p .figures .lanes) l (f .lane), r)
-    (copied out 7 small size b (recordAt l) (s .small) (rw (s .size) (omega arith)))
+    (copied out 7 small size b (recordAt l) (s .small) (rw (s .size) (omega arith)) ∙ ap (λ (o : ℕ). take 28 (drop o b)) e)
 
 -- ---- the place of the next store
 

@@ -3,22 +3,22 @@
 use mathlib.Core.Path.{_≡_}
 use mathlib.Core.Logic.{_≢_, _⊎_}
 use mathlib.Core.List.{List, [], _∷_}
-use Prim.Native.Nat.{ℕ, _+_, _*_, _≤_, _<_}
+use Prim.Native.Nat.{ℕ, _+_, _-_, _*_, _≤_, _<_}
 use lib.ListN.{length, getD, take, drop, replicate}
-use Rattle.words.specs.Word.{word}
-use Rattle.layout.specs.Figures.{maxLanes}
+use Rattle.words.specs.Bytes.{Small, byteWord}
+use Rattle.layout.specs.Claims.{Length}
 use Rattle.layout.specs.Told.{alone}
 use Rattle.infoblock.specs.Info.{infoBlockOf}
+use Rattle.infoblock.specs.Claims.{Sound}
 use Rattle.machine.specs.Rules.{FirstOf, line}
 use Rattle.machine.specs.state.Handle.{Handle}
 use Rattle.machine.specs.calls.Order.{badHandle, noSuchLane, laneIdle, number}
 use Rattle.machine.specs.calls.Opening.{openOf}
 use Rattle.machine.specs.calls.Reading.{readOf}
 use Rattle.machine.specs.calls.Writing.{Outcome, startOf, stepOf, writeOf}
-use Rattle.machine.specs.words.InBytes.{Small}
 use Rattle.machine.specs.words.Running.{Holds}
-use Rattle.handlebytes.specs.Bytes.{handleBytes, recordAt, decodeFigures}
 use Rattle.btt.specs.Calls.{
+  span,
   HostOutcome,
   handleIn,
   bttInfoBlockOf,
@@ -36,7 +36,7 @@ use Rattle.btt.specs.Calls.{
 
 -- 512 bytes that hold the handle
 pub record HoldsHandle (b : List ℕ) (h : Handle) : Type 0 where
-  pub size : length b ≡ handleBytes
+  pub size : length b ≡ 512
   pub small : Small b
   pub is : handleIn b ≡ h
 
@@ -50,6 +50,14 @@ pub record SameOutcome (c : HostOutcome) (o : Outcome) : Type 0 where
 pub record Untouched (a b : List ℕ) (c : HostOutcome) : Type 0 where
   pub arena : c .arena ≡ a
   pub handle : c .handle ≡ b
+
+-- where the info block that counts is: the first bytes if that block is sound, else the last if that one is, else nowhere
+pub record InfoPlace (a : List ℕ) : Type 0 where
+  pub first : Length (length a) → Sound (take 4096 a) → bttInfoBlockOf a ≡ span 0 4096
+  pub copy : Length (length a) → (Sound (take 4096 a) → ⊥) → Sound (drop (length a - 4096) a)
+      → bttInfoBlockOf a ≡ span (length a - 4096) 4096
+  pub neither : (Sound (take 4096 a) → ⊥) → (Sound (drop (length a - 4096) a) → ⊥) → bttInfoBlockOf a ≡ span 0 0
+  pub no-arena : (Length (length a) → ⊥) → bttInfoBlockOf a ≡ span 0 0
 
 -- every call that takes the handle's bytes answers 16
 pub record AllBadHandle (a b : List ℕ) : Type 0 where
@@ -73,10 +81,11 @@ pub record ToldPlace (a b : List ℕ) (l offset : ℕ) (buffer : List ℕ) : Typ
 pub record HostClaim : Type 0 where
   -- the block at the place shown is the one that counts
   pub info-block : (a : List ℕ) → take ((bttInfoBlockOf a) .length) (drop ((bttInfoBlockOf a) .offset) a) ≡ infoBlockOf a
+  pub info-place : (a : List ℕ) → Small a → InfoPlace a
   -- an accepted opening leaves bytes that hold the handle it gives, a refused one zeroes
   pub opened : (a work : List ℕ) → Small a → (openOf alone a work) .number ≡ 0
       → HoldsHandle ((bttOpenOf a work) .handle) ((openOf alone a work) .handle)
-  pub open-refused : (a work : List ℕ) → (openOf alone a work) .number ≢ 0 → (bttOpenOf a work) .handle ≡ replicate handleBytes 0
+  pub open-refused : (a work : List ℕ) → (openOf alone a work) .number ≢ 0 → (bttOpenOf a work) .handle ≡ replicate 512 0
   -- each call is the machine's
   pub read : (a b : List ℕ) (h : Handle) (s : ℕ) (buffer : List ℕ) → HoldsHandle b h → bttReadOf a b s buffer ≡ readOf a h s buffer
   pub start : (a b : List ℕ) (h : Handle) (l s : ℕ) → HoldsHandle b h → SameOutcome (bttStartOf a b l s) (startOf a h l s)
@@ -92,10 +101,13 @@ pub record HostClaim : Type 0 where
       → Untouched a b (bttStepOf a b l buffer)
   pub write-refused : (a b : List ℕ) (l s : ℕ) (buffer : List ℕ) → (bttWriteOf a b l s buffer) .number ≢ 0
       → Untouched a b (bttWriteOf a b l s buffer)
+  pub lane-refused : (a b : List ℕ) (l : ℕ) (out : List ℕ) → (bttLaneOf a b l out) .number ≢ 0 → (bttLaneOf a b l out) .out ≡ out
+  pub next-refused : (a b : List ℕ) (l offset : ℕ) → (bttNextStoreOf a b l offset) .number ≢ 0
+      → (bttNextStoreOf a b l offset) .offset ≡ offset
   -- a busy word of 2 or more in a record below the lanes is 16, whatever else the handle's bytes are
-  pub busy : (a b : List ℕ) (l : ℕ) → l < maxLanes → l < (decodeFigures b) .lanes → 2 ≤ word b (recordAt l) → AllBadHandle a b
+  pub busy : (a b : List ℕ) (l : ℕ) → l < 16 → l < byteWord b 56 → 2 ≤ byteWord b (64 + 28 * l) → AllBadHandle a b
   -- of a handle's bytes a call on a lane changes that lane's record at most
-  pub kept : (b : List ℕ) (l : ℕ) (o : Outcome) → OnlyAt (4 * recordAt l) 28 b ((bttOf b l o) .handle)
+  pub kept : (b : List ℕ) (l : ℕ) (o : Outcome) → OnlyAt (64 + 28 * l) 28 b ((bttOf b l o) .handle)
   -- a look at a lane: 16, 11; at where its next step stores: 16, 11, 14
   pub lane-order : (l : ℕ) → line number (laneOrder l) ≡ (16, badHandle) ∷ (11, noSuchLane l) ∷ []
   pub next-order : (l : ℕ) → line number (nextOrder l) ≡ (16, badHandle) ∷ (11, noSuchLane l) ∷ (14, laneIdle l) ∷ []
@@ -106,5 +118,5 @@ pub record HostClaim : Type 0 where
       → FirstOf number (Holds a h) (nextOrder l) ((bttNextStoreOf a b l offset) .number)
   -- the record shown is the lane's in the handle's bytes
   pub lane : (a b : List ℕ) (h : Handle) (l : ℕ) (out : List ℕ) → HoldsHandle b h → Small out → length out ≡ 28
-      → (bttLaneOf a b l out) .number ≡ 0 → (bttLaneOf a b l out) .out ≡ take 28 (drop (4 * recordAt l) b)
+      → (bttLaneOf a b l out) .number ≡ 0 → (bttLaneOf a b l out) .out ≡ take 28 (drop (64 + 28 * l) b)
   pub next-store : (a b : List ℕ) (l offset : ℕ) (buffer : List ℕ) → (bttStepOf a b l buffer) .number ≡ 0 → ToldPlace a b l offset buffer

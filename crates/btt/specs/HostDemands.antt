@@ -3,13 +3,13 @@ use mathlib.Core.Path.{_≡_}
 use mathlib.Core.List.{List, [], _++_}
 use Prim.Native.Nat.{ℕ, _≤_}
 use lib.ListN.{length}
+use Rattle.words.specs.Bytes.{Small}
 use Rattle.layout.specs.Told.{alone}
 use Rattle.machine.specs.state.Stores.{Store, putAll}
 use Rattle.machine.specs.calls.Opening.{figuresIn, layoutIn, openOf}
 use Rattle.machine.specs.calls.History.{Call, State, Event, SmallEvents, openedFrom}
 use Rattle.machine.specs.models.Row.{rowRead, rowAfterAll, rowReplies, OneBuffer, firstRow}
 use Rattle.machine.specs.models.Book.{bookAfter, bookReplies, kept}
-use Rattle.machine.specs.words.InBytes.{Small}
 use Rattle.machine.specs.claims.DemandThree.{SameMembers, takenApart, Listed, AfterCut}
 use Rattle.btt.specs.Calls.{bttOpenOf, bttReadOf}
 use Rattle.btt.specs.HostList.{HostState, openedHost, hostRun, hostReplies, hostRunEvents, hostReplyEvents, StandsFor}

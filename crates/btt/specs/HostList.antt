@@ -5,6 +5,7 @@ use mathlib.Core.Bool.{cond}
 use mathlib.Core.List.{List}
 use Prim.Native.Nat.{ℕ}
 use lib.Dec.{eqb}
+use Rattle.words.specs.Bytes.{Small}
 use Rattle.layout.specs.Told.{alone}
 use Rattle.machine.specs.calls.Opening.{openOf}
 use Rattle.machine.specs.calls.History.{
@@ -27,7 +28,6 @@ use Rattle.machine.specs.calls.History.{
   replyEvents,
   openedFrom,
 }
-use Rattle.machine.specs.words.InBytes.{Small}
 use Rattle.btt.specs.Calls.{HostOpening, HostOutcome, bttOpenOf, bttReadOf, bttStartOf, bttStepOf, bttWriteOf}
 use Rattle.btt.specs.Host.{HoldsHandle}
 

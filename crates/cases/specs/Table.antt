@@ -1,6 +1,6 @@
 -- The worked figures of document 01 that are marked to be proved, cases 1 to 8, as one table of values computed and values due.
 use mathlib.Core.List.{List, [], _∷_, _++_}
-use Prim.Native.Nat.{ℕ, _+_}
+use Prim.Native.Nat.{_+_}
 use Rattle.fletcher.specs.Fletcher.{fletcher64}
 use Rattle.format.specs.Sequence.{successor, newer}
 use Rattle.format.specs.MapWord.{flagsOf, readingOf, blockOf}
@@ -26,6 +26,13 @@ case3 =
     ∷ (blockOf 7 0x80000005 is 5) ∷ (readingOf (flagsOf 0x80000005) is 1)
     ∷ (blockOf 7 0xC0000005 is 5) ∷ (readingOf (flagsOf 0xC0000005) is 2) ∷ []
 
+-- beside case 3: each of bits 29 to 0 counts, and under flags 00 none does
+abbrev pub case3-bits : List Worked
+case3-bits =
+    (blockOf 7 0xE0000005 is 0x20000005) ∷ (readingOf (flagsOf 0xE0000005) is 2)
+    ∷ (blockOf 7 0xC0010005 is 0x10005) ∷ (blockOf 7 0x7FFFFFFF is 0x3FFFFFFF)
+    ∷ (blockOf 7 0x3FFFFFFF is 7) ∷ (readingOf (flagsOf 0x3FFFFFFF) is 0) ∷ []
+
 -- case 4: checksums of runs of words
 abbrev pub case4 : List Worked
 case4 =
@@ -39,4 +46,5 @@ case5 =
     ∷ (freshLength 512 60 4 is 49152) ∷ (freshLength 512 1 1 is 20480) ∷ (freshLength 4096 1 1 is 24576) ∷ []
 
 unfoldable pub table : List Worked
-table = case1 ++ (case2 ++ (case3 ++ (case4 ++ (case5 ++ (case6 1 ++ (case6 0 ++ (case7 1 ++ (case7 0 ++ case8))))))))
+table =
+    case1 ++ (case2 ++ (case3 ++ (case3-bits ++ (case4 ++ (case5 ++ (case6 1 ++ (case6 0 ++ (case7 1 ++ (case7 0 ++ case8)))))))))

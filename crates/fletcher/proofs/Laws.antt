@@ -24,14 +24,14 @@ pub addedAll-from : (a : List ℕ) (i n : ℕ) (s : Sums)
 addedAll-from a i n s = rw (add-one, wordsFrom-snoc) (addedAll-snoc (wordsFrom a i n) (word a (i + n)) s)
 
 -- both sums fit 32 bits
-abbrev pub Small : Sums → Type 0
-Small s = (s .low < 2 ^ 32) × (s .high < 2 ^ 32)
+abbrev pub SmallSums : Sums → Type 0
+SmallSums s = (s .low < 2 ^ 32) × (s .high < 2 ^ 32)
 
-pub added-small : (s : Sums) (w : ℕ) → Small (added s w)
+pub added-small : (s : Sums) (w : ℕ) → SmallSums (added s w)
 unfolding added
 added-small s w = (omega arith, omega arith)
 
-addedAll-small : (ws : List ℕ) (s : Sums) → Small s → Small (addedAll s ws)
+addedAll-small : (ws : List ℕ) (s : Sums) → SmallSums s → SmallSums (addedAll s ws)
 unfolding addedAll
 addedAll-small [] s h = h
 addedAll-small (w ∷ ws) s h = addedAll-small ws (added s w) (added-small s w)

@@ -14,10 +14,10 @@ use Rattle.words.proofs.Runs.{length-wordsFrom, wordsFrom-same, wordsFrom-snoc}
 use Rattle.fletcher.specs.declared.Sums.{Sums}
 use Rattle.fletcher.specs.Fletcher.{added, addedAll, fletcher64, blockChecksum}
 use Rattle.fletcher.specs.Claims.{sum, weighted, fletcherValue, fieldCleared, ChecksumClaim}
-use Rattle.fletcher.proofs.Laws.{Small, added-small}
+use Rattle.fletcher.proofs.Laws.{SmallSums, added-small}
 
 -- the low sum, from any low sum below 2^32
-low-is : (ws : List ℕ) (s : Sums) → Small s → (addedAll s ws) .low ≡ (s .low + sum ws) % 4294967296
+low-is : (ws : List ℕ) (s : Sums) → SmallSums s → (addedAll s ws) .low ≡ (s .low + sum ws) % 4294967296
 unfolding addedAll added sum
 low-is [] s h = omega (arith, h .0)
 low-is (w ∷ ws) s h =
@@ -39,7 +39,7 @@ step h l w n t =
     ap (λ (x : ℕ). x % 4294967296) (add-assoc ((h + r) % 4294967296) (n * r) t) ∙ mod-add-mod (h + r) 4294967296 (n * r + t)
     ∙ sym (add-mul-mod-self-left (h + r + (n * r + t)) 4294967296 (q + n * q)) ∙ ap (λ (x : ℕ). x % 4294967296) f
 
-high-is : (ws : List ℕ) (s : Sums) → Small s → (addedAll s ws) .high ≡ (s .high + length ws * s .low + weighted ws) % 4294967296
+high-is : (ws : List ℕ) (s : Sums) → SmallSums s → (addedAll s ws) .high ≡ (s .high + length ws * s .low + weighted ws) % 4294967296
 unfolding addedAll added weighted
 high-is [] s h = omega (arith, h .1)
 high-is (w ∷ ws) s h = high-is ws (added s w) (added-small s w) ∙ step (s .high) (s .low) w (length ws) (weighted ws)
@@ -48,7 +48,7 @@ fletcher-value : (ws : List ℕ) → fletcher64 ws ≡ fletcherValue ws
 unfolding fletcher64
 fletcher-value ws =
     let z : Sums = record { low = 0; high = 0 } in
-    let s : Small z = (omega arith, omega arith) in
+    let s : SmallSums z = (omega arith, omega arith) in
     let l = low-is ws z s in
     let h = high-is ws z s in
     omega (arith, l, h)

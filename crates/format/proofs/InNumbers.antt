@@ -133,6 +133,7 @@ flog-claim =
       after-1 = refl;
       after-2 = refl;
       after-3 = refl;
+      next = λ x. refl;
       first = first-newer;
       halves = (refl, refl, refl);
       second = second-newer;

@@ -6,7 +6,7 @@ use mathlib.Core.List.{List}
 use Prim.Native.Nat.{ℕ, _+_, _-_, _*_, _%_, _≤_, _<_}
 use Rattle.words.specs.Bytes.{byteWord}
 use Rattle.format.specs.MapWord.{flagsOf, lowBits, flagBits, readingOf, readingNumber, blockOf, mappedTo, badWord}
-use Rattle.format.specs.Sequence.{successor, newer, halfOf}
+use Rattle.format.specs.Sequence.{successor, nextOf, newer, halfOf}
 use Rattle.format.specs.Flog.{newerOfPair, halfAt}
 use Rattle.format.specs.declared.map.MapState.the-variants.{Unwritten, Zeroed, Bad, Data}
 use Rattle.format.specs.declared.map.Reading.the-variants.{Zeroes, BadSector, Bytes}
@@ -62,6 +62,7 @@ pub record FlogClaim : Type 0 where
   pub after-1 : successor 1 ≡ 2
   pub after-2 : successor 2 ≡ 3
   pub after-3 : successor 3 ≡ 1
+  pub next : (x : ℕ) → (nextOf (record { 0 = x })) .0 ≡ successor x
   -- the numbers of the halves that the code names
   pub halves : (halfOf First ≡ 0) × (halfOf Second ≡ 1) × (halfOf Neither ≡ 2)
   -- the newer half of any two: the first (0), the second (1), and else none (2)

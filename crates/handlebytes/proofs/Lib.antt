@@ -1,3 +1,4 @@
+pub mod Offsets
 pub mod Records
 pub mod Round
 pub mod Whole

@@ -147,20 +147,20 @@ fits-back b h s = rw (← s .is) (record {
     internal = one 12;
     blocks = one 13;
     lanes = one 14;
-    dataoff = joint 2;
-    mapoff = joint 4;
-    flogoff = joint 6;
-    copyoff = joint 8;
+    data-start = joint 2;
+    map-start = joint 4;
+    flog-start = joint 6;
+    copy-start = joint 8;
   };
   records = decode-length b 16;
   lanes = λ l u. rw (lane-at b 16 l u) (record {
-    busy = one (recordAt l);
-    block = one (recordAt l + 1);
-    half = one (recordAt l + 2);
-    sequence = one (recordAt l + 3);
-    sector = one (recordAt l + 4);
-    old = one (recordAt l + 5);
-    made = one (recordAt l + 6);
+    busy = one _;
+    block = one _;
+    half = one _;
+    sequence = one _;
+    sector = one _;
+    old = one _;
+    made = one _;
   });
 })
   where

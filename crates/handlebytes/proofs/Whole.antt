@@ -56,19 +56,19 @@ module _ (h : Handle) (f : HandleFits h) where
           (
             omega arith,
             (
-              omega (arith, g .dataoff),
+              omega (arith, g .data-start),
               (
                 omega arith,
                 (
-                  omega (arith, g .mapoff),
+                  omega (arith, g .map-start),
                   (
                     omega arith,
                     (
-                      omega (arith, g .flogoff),
+                      omega (arith, g .flog-start),
                       (
                         omega arith,
                         (
-                          omega (arith, g .copyoff),
+                          omega (arith, g .copy-start),
                           (g .size, (g .sectors, (g .internal, (g .blocks, (g .lanes, (omega arith, tt)))))),
                         ),
                       ),
@@ -127,6 +127,10 @@ module _ (h : Handle) (f : HandleFits h) where
   filled-head : (k : ℕ) → k < 16 → word (filled 16) k ≡ getD words k 0
   unfolding filled
   filled-head k u = word-putWords-out (recordsWords (h .lanes) 16) head 16 k (inl u) ∙ head-word k u
+
+  pub reserved-word : word (encodeHandle h) 15 ≡ 0
+  unfolding words startWords figureWords
+  reserved-word = rw encode-filled (filled-head 15 (omega arith))
 
   filled-long : (i n : ℕ) → i + 1 < 16 → getD words i 0 ≡ n % limit → getD words (i + 1) 0 ≡ n / limit → long (filled 16) i ≡ n
   unfolding long

@@ -1,16 +1,15 @@
--- Bytes that stand for a handle, and the claim that storing and decoding agree.
+-- Bytes that stand for a handle, and the numbers that fit them.
 use mathlib.Core.Path.{_≡_}
 use mathlib.Core.List.{List}
 use Prim.Native.Nat.{ℕ, _<_}
-use lib.ListN.{length, set, replicate}
+use lib.ListN.{length, set}
+use Rattle.words.specs.Bytes.{Small}
 use Rattle.layout.specs.Figures.{maxLanes}
-use Rattle.layout.specs.declared.Figures.{Figures}
+use Rattle.layout.specs.Fit.{FiguresFit}
 use Rattle.machine.specs.state.Handle.{laneAt}
-use Rattle.machine.specs.state.Packed.{zeroHandle}
-use Rattle.machine.specs.words.InBytes.{Small}
 use Rattle.machine.specs.declared.lane.Lane.{Lane}
 use Rattle.machine.specs.declared.handle.Handle.{Handle}
-use Rattle.handlebytes.specs.Bytes.{handleBytes, recordAt, decodeHandle, putRecord, encodeHandle}
+use Rattle.handlebytes.specs.Bytes.{handleBytes, decodeHandle}
 
 -- numbers of 32 and of 64 bits
 abbrev pub Fits32 : ℕ → Type 0
@@ -28,17 +27,6 @@ pub record RecordFits (r : Lane) : Type 0 where
   pub old : Fits32 (r .old .0)
   pub made : Fits32 (r .made)
 
-pub record FiguresFit (f : Figures) : Type 0 where
-  pub size : Fits32 (f .size)
-  pub sectors : Fits32 (f .sectors)
-  pub internal : Fits32 (f .internal)
-  pub blocks : Fits32 (f .blocks)
-  pub lanes : Fits32 (f .lanes)
-  pub dataoff : Fits64 (f .dataoff)
-  pub mapoff : Fits64 (f .mapoff)
-  pub flogoff : Fits64 (f .flogoff)
-  pub copyoff : Fits64 (f .copyoff)
-
 -- the handle with record l replaced
 abbrev pub withRecord : Handle → ℕ → Lane → Handle
 withRecord h l r = record { length = h .length; figures = h .figures; lanes = set (h .lanes) l r }
@@ -55,14 +43,3 @@ pub record Stands (b : List ℕ) (h : Handle) : Type 0 where
   pub size : length b ≡ handleBytes
   pub small : Small b
   pub is : decodeHandle b ≡ h
-
-pub record BytesClaim : Type 0 where
-  -- a handle's bytes stand for it
-  pub encoded : (h : Handle) → HandleFits h → Stands (encodeHandle h) h
-  -- so do those that a refused opening leaves
-  pub zeroes : Stands (replicate handleBytes 0) zeroHandle
-  -- a record stored in its place changes that record and nothing else
-  pub stored : (b : List ℕ) (h : Handle) (l : ℕ) (r : Lane) → Stands b h → l < maxLanes → RecordFits r
-      → Stands (putRecord b (recordAt l) r) (withRecord h l r)
-  -- what bytes stand for fits
-  pub fits : (b : List ℕ) (h : Handle) → Stands b h → HandleFits h

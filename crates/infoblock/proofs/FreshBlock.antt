@@ -10,7 +10,7 @@ use lib.ListN.{length, getD, take, drop, replicate, getD-replicate, length-appen
 use lib.Seq.{getD-append-add, ext-getD, take-all}
 use borrow.Author.Tests.{eq-eqb}
 use Rattle.words.specs.Word.{word, putWords, wordsFrom, joined, long}
-use Rattle.words.specs.Bytes.{byteWord, byteLong}
+use Rattle.words.specs.Bytes.{Small, byteWord, byteLong}
 use Rattle.words.proofs.Laws.{word-lt, word-drop}
 use Rattle.words.proofs.Runs.{length-putWords, putWords-bytes, word-putWords-in, length-wordsFrom, getD-wordsFrom}
 use Rattle.words.proofs.Bytes.{word-at, long-at, byte-zero}
@@ -20,7 +20,8 @@ use Rattle.format.proofs.Tests.{every-intro}
 use Rattle.format.proofs.Below.{Below, below-append, below-replicate, below-drop, below-each, none, _◂_}
 use Rattle.layout.specs.declared.Figures.{Figures}
 use Rattle.infoblock.specs.Info.{signature, signed, split, headWords, bodyWords, freshChecksum, infoWords}
-use Rattle.infoblock.specs.Claims.{Small, Fields, Header, Fits, Identifier, FreshBlock, FreshBlockClaim}
+use Rattle.layout.specs.Fit.{FiguresFit}
+use Rattle.infoblock.specs.Claims.{Fields, Header, Identifier, FreshBlock, FreshBlockClaim}
 use Rattle.infoblock.proofs.InfoBlock.{take-same, signature-small, sound-intro}
 use Rattle.infoblock.proofs.Stored.{head-length, body-length}
 use Rattle.infoblock.proofs.InBytes.{version-of, signature-of, sound-is}
@@ -62,7 +63,7 @@ module _ (first second : List ℕ) (f : Figures) where
   info-high = getD-past (bodyWords first second f) (split (freshChecksum first second f) []) 1022 1 (body-length first second f)
 
   -- each word fits 32 bits
-  module _ (p : Small first) (q : Small second) (t : Fits f) where
+  module _ (p : Small first) (q : Small second) (t : FiguresFit f) where
     head-below : Below 4294967296 (headWords first second f)
     unfolding headWords
     head-below =
@@ -203,7 +204,7 @@ module _ (first second : List ℕ) (f : Figures) where
           checksum = sound-is b s (sound-intro b size signed-made checksum-made);
         }
 
-stored-block : (first second : List ℕ) (f : Figures) (a : List ℕ) → Identifier first → Identifier second → Fits f
+stored-block : (first second : List ℕ) (f : Figures) (a : List ℕ) → Identifier first → Identifier second → FiguresFit f
     → Small a → length a ≡ 4096 → FreshBlock first second f (putWords a 0 (infoWords first second f))
 stored-block first second f a c d t s l =
     let ws = infoWords first second f in

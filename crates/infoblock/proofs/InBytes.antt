@@ -9,18 +9,22 @@ use lib.ListN.{length, getD, take}
 use lib.Seq.{getD-take}
 use borrow.Author.Tests.{eqb-true, eq-eqb}
 use Rattle.words.specs.Word.{word, long}
-use Rattle.words.specs.Bytes.{byteWord}
+use Rattle.words.specs.Bytes.{Small, byteWord}
 use Rattle.words.proofs.Bytes.{word-at, long-at}
 use Rattle.fletcher.proofs.PlainSums.{checksum-claim}
 use Rattle.format.proofs.Tests.{by-bool, and-elim, and-intro, all-elim, every-elim}
 use Rattle.layout.specs.Figures.{lengthAllowed, figuresAllowed, figuresAt}
 use Rattle.layout.specs.Claims.{Length}
+use Rattle.layout.specs.declared.Figures.{Figures}
 use Rattle.layout.proofs.Allowed.{allowed-of, of-allowed}
 use Rattle.layout.proofs.InBytes.{allowed-claim}
-use Rattle.infoblock.specs.Info.{signature, signed, sound, countsOf, infoBlockOf, figuresOf, headerAllowed}
-use Rattle.infoblock.specs.Claims.{Small, byteShort, Fields, Header, FieldsClaim, signatureBytes, Sound, SoundClaim}
+use Rattle.infoblock.specs.Info.{signature, signed, sound, infoBlockOf, figuresOf, headerAllowed}
+use Rattle.infoblock.specs.Claims.{byteShort, Fields, Header, FieldsClaim, signatureBytes, Sound, SoundClaim}
 use Rattle.infoblock.proofs.InfoBlock.{
   take-same,
+  counts-main,
+  counts-copy,
+  counts-none,
   counting-main,
   counting-copy,
   counting-none,
@@ -46,6 +50,22 @@ fields-of b =
       map-start = long-at b 24 96 refl;
       flog-start = long-at b 26 104 refl;
       copy-start = long-at b 28 112 refl;
+    }
+
+-- the figures of a block with given fields are the given ones
+pub figures-are : (b : List ℕ) (f : Figures) → Fields b f → figuresOf b ≡ f
+figures-are b f e =
+    let d = fields-of b in
+    λ j. record {
+      size = (d .size ∙ sym (e .size)) j;
+      sectors = (d .sectors ∙ sym (e .sectors)) j;
+      internal = (d .internal ∙ sym (e .internal)) j;
+      blocks = (d .blocks ∙ sym (e .blocks)) j;
+      lanes = (d .lanes ∙ sym (e .lanes)) j;
+      dataoff = (d .data-start ∙ sym (e .data-start)) j;
+      mapoff = (d .map-start ∙ sym (e .map-start)) j;
+      flogoff = (d .flog-start ∙ sym (e .flog-start)) j;
+      copyoff = (d .copy-start ∙ sym (e .copy-start)) j;
     }
 
 -- the version's word as two 16-bit numbers, and back
@@ -128,18 +148,6 @@ is-sound b s =
 -- not sound, as the test says it
 unsound : (b : List ℕ) → Small b → (Sound b → ⊥) → sound b ≡ false
 unsound b s n = by-bool (sound b) (sound b ≡ false) (λ e. absurd (n (sound-is b s e))) (λ e. e)
-
-counts-main : (main copy : List ℕ) → sound main ≡ true → countsOf main copy ≡ 0
-unfolding countsOf
-counts-main main copy e = rw e
-
-counts-copy : (main copy : List ℕ) → sound main ≡ false → sound copy ≡ true → countsOf main copy ≡ 1
-unfolding countsOf
-counts-copy main copy e f = rw (e, f)
-
-counts-none : (main copy : List ℕ) → sound main ≡ false → sound copy ≡ false → countsOf main copy ≡ 2
-unfolding countsOf
-counts-none main copy e f = rw (e, f)
 
 no-arena : (a : List ℕ) → (Length (length a) → ⊥) → infoBlockOf a ≡ []
 unfolding infoBlockOf

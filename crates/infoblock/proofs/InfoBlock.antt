@@ -68,51 +68,33 @@ info-local a b e w f g =
         let k : length a - 4096 ≡ 4 * ((length a - 4096) / 4) = omega arith in
         rw (← e) (rw k (drop-same a b ((length a - 4096) / 4) (omega arith) e f g (λ i. w ((length a - 4096) / 4 + i) (inr (omega arith)))))
 
--- which block counts
-pub counting-main : (main copy : List ℕ) → sound main ≡ true → countingOf main copy ≡ main
-unfolding countingOf
-counting-main main copy e = rw e
-
-pub counting-copy : (main copy : List ℕ) → sound main ≡ false → sound copy ≡ true → countingOf main copy ≡ copy
-unfolding countingOf
-counting-copy main copy e f = rw (e, f)
-
-pub counting-none : (main copy : List ℕ) → sound main ≡ false → sound copy ≡ false → countingOf main copy ≡ []
-unfolding countingOf
-counting-none main copy e f = rw (e, f)
-
--- the number of the block that counts, by the two tests
-abbrev counted : Bool → Bool → ℕ
-counted t u = cond t 0 (cond u 1 2)
-
-counted-of : (t u : Bool) → (counted t u ≡ 0 → t ≡ true) × (counted t u ≡ 1 → (t ≡ false) × (u ≡ true))
-    × (counted t u ≡ 2 → (t ≡ false) × (u ≡ false))
-counted-of true u = (λ e. refl, λ e. absurd (omega arith), λ e. absurd (omega arith))
-counted-of false true = (λ e. absurd (omega arith), λ e. (refl, refl), λ e. absurd (omega arith))
-counted-of false false = (λ e. absurd (omega arith), λ e. absurd (omega arith), λ e. (refl, refl))
-
--- what that number says of the two blocks
+-- which block counts, by the two tests, and the block itself
 module _ (main copy : List ℕ) where
-  main-counts : countsOf main copy ≡ 0 → sound main ≡ true
+  pub counts-main : sound main ≡ true → countsOf main copy ≡ 0
   unfolding countsOf
-  main-counts e = counted-of (sound main) (sound copy) .0 e
+  counts-main e = rw e
 
-  copy-counts : countsOf main copy ≡ 1 → (sound main ≡ false) × (sound copy ≡ true)
+  pub counts-copy : sound main ≡ false → sound copy ≡ true → countsOf main copy ≡ 1
   unfolding countsOf
-  copy-counts e = counted-of (sound main) (sound copy) .1 e
+  counts-copy e f = rw (e, f)
 
-  pub none-counts : countsOf main copy ≡ 2 → (sound main ≡ false) × (sound copy ≡ false)
+  pub counts-none : sound main ≡ false → sound copy ≡ false → countsOf main copy ≡ 2
   unfolding countsOf
-  none-counts e = counted-of (sound main) (sound copy) .2 e
+  counts-none e f = rw (e, f)
 
-  -- the block itself, by that number
   pub counts-as : (countsOf main copy ≡ 0 → countingOf main copy ≡ main) × (countsOf main copy ≡ 1 → countingOf main copy ≡ copy)
       × (countsOf main copy ≡ 2 → countingOf main copy ≡ [])
-  counts-as = (
-    λ e. counting-main main copy (main-counts e),
-    λ e. counting-copy main copy (copy-counts e .0) (copy-counts e .1),
-    λ e. counting-none main copy (none-counts e .0) (none-counts e .1),
-  )
+  unfolding countingOf
+  counts-as = (λ e. rw e, λ e. rw e, λ e. rw e)
+
+  pub counting-main : sound main ≡ true → countingOf main copy ≡ main
+  counting-main e = counts-as .0 (counts-main e)
+
+  pub counting-copy : sound main ≡ false → sound copy ≡ true → countingOf main copy ≡ copy
+  counting-copy e f = counts-as .1 (counts-copy e f)
+
+  pub counting-none : sound main ≡ false → sound copy ≡ false → countingOf main copy ≡ []
+  counting-none e f = counts-as .2 (counts-none e f)
 
 pub info-in : (a : List ℕ) → lengthAllowed (length a) ≡ true → infoBlockOf a ≡ countingOf (take 4096 a) (drop (length a - 4096) a)
 unfolding infoBlockOf
@@ -136,14 +118,15 @@ sound-intro b l s c = rw (eq-eqb _ _ l, s, eq-eqb _ _ c)
 
 -- the block that counts is empty, or 4,096 bytes long and sound
 pub info-size : (a : List ℕ) → (infoBlockOf a ≡ []) ⊎ ((length (infoBlockOf a) ≡ 4096) × (sound (infoBlockOf a) ≡ true))
-unfolding infoBlockOf countingOf
+unfolding infoBlockOf countingOf countsOf
 info-size a = go (lengthAllowed (length a)) (sound (take 4096 a)) refl (sound (drop (length a - 4096) a)) refl
   where
     whole : (b : List ℕ) → sound b ≡ true → (length b ≡ 4096) × (sound b ≡ true)
     whole b e = (sound-size b e, e)
 
     go : (t u : Bool) → sound (take 4096 a) ≡ u → (v : Bool) → sound (drop (length a - 4096) a) ≡ v
-        → let b = cond t (cond u (take 4096 a) (cond v (drop (length a - 4096) a) [])) [] in
+        → let n : ℕ = cond u 0 (cond v 1 2) in
+        let b = cond t (cond (eqb n 0) (take 4096 a) (cond (eqb n 1) (drop (length a - 4096) a) [])) [] in
         (b ≡ []) ⊎ ((length b ≡ 4096) × (sound b ≡ true))
     go false u e v f = inl refl
     go true true e v f = inr (whole (take 4096 a) e)

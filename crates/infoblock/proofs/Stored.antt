@@ -65,15 +65,15 @@ body-length first second f =
     omega (arith, head-length first second f, length-append (headWords first second f) (replicate 992 0), length-replicate {A = ℕ} 992 0)
 
 -- every word of a run fits 32 bits
-abbrev Small : List ℕ → Type 0
-Small ws = (j : ℕ) → getD ws j 0 < 4294967296
+abbrev SmallWords : List ℕ → Type 0
+SmallWords ws = (j : ℕ) → getD ws j 0 < 4294967296
 
-append-small : (xs ys : List ℕ) → Small xs → Small ys → Small (xs ++ ys)
+append-small : (xs ys : List ℕ) → SmallWords xs → SmallWords ys → SmallWords (xs ++ ys)
 append-small [] ys p q j = q j
 append-small (x ∷ xs) ys p q zero = p 0
 append-small (x ∷ xs) ys p q (suc j) = append-small xs ys (λ k. p (suc k)) q j
 
-zeros-small : (n : ℕ) → Small (replicate n 0)
+zeros-small : (n : ℕ) → SmallWords (replicate n 0)
 zeros-small zero j = omega arith
 zeros-small (suc n) zero = omega arith
 zeros-small (suc n) (suc j) = zeros-small n j
@@ -89,7 +89,7 @@ unfolding putLong putWords
 put-sum ws a i n v l = rw (← l, add-one) (sym (putWords-append ws (v % 4294967296 ∷ v / 4294967296 ∷ []) a i))
 
 -- the sums of a run that was stored, with two zero words more
-sum-read : (ws a : List ℕ) (i n : ℕ) → length ws ≡ n → 4 * (i + n) ≤ length a → Small ws
+sum-read : (ws a : List ℕ) (i n : ℕ) → length ws ≡ n → 4 * (i + n) ≤ length a → SmallWords ws
     → valueOf (added (added (addedAll (record { low = 0; high = 0 }) (wordsFrom (putWords a i ws) i n)) 0) 0) ≡ fletcher64 (ws ++ (0 ∷ 0 ∷ []))
 unfolding fletcher64 addedAll
 sum-read ws a i n l h b =
@@ -98,7 +98,7 @@ sum-read ws a i n l h b =
 
 module _ (a first second head a1 a2 a3 : List ℕ) (i v : ℕ) (f : Figures) (s0 s1 s2 s3 : Sums) where
   -- the stores of a made info block, one after the other
-  pub info-stored : 4 * (i + 1024) ≤ length a → Small head → head ≡ headWords first second f
+  pub info-stored : 4 * (i + 1024) ≤ length a → SmallWords head → head ≡ headWords first second f
       → a1 ≡ putWords a i head → a2 ≡ putWords a1 (i + 30) (replicate 992 0)
       → s0 ≡ record { low = 0; high = 0 } → s1 ≡ addedAll s0 (wordsFrom a2 i 1022) → s2 ≡ added s1 0 → s3 ≡ added s2 0
       → v ≡ valueOf s3 → a3 ≡ putLong a2 (i + 1022) v → a3 ≡ putWords a i (infoWords first second f)

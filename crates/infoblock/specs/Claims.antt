@@ -5,10 +5,11 @@ use mathlib.Core.List.{List, [], _∷_}
 use Prim.Native.Nat.{ℕ, _+_, _-_, _*_, _≤_, _<_}
 use lib.ListN.{length, getD, take, drop}
 use Rattle.words.specs.Word.{putWords}
-use Rattle.words.specs.Bytes.{byteWord, byteLong, wordsIn}
+use Rattle.words.specs.Bytes.{Small, byteWord, byteLong, wordsIn}
 use Rattle.fletcher.specs.Claims.{fletcherValue, fieldCleared}
 use Rattle.layout.specs.Figures.{Allowed}
 use Rattle.layout.specs.Claims.{Length}
+use Rattle.layout.specs.Fit.{FiguresFit}
 use Rattle.layout.specs.declared.Figures.{Figures}
 use Rattle.layout.specs.declared.Told.{Told}
 use Rattle.infoblock.specs.Info.{
@@ -25,10 +26,6 @@ use Rattle.infoblock.specs.Info.{
   infoWords,
 }
 use Rattle.infoblock.specs.declared.Counts.the-variants.{Main, Copy, Neither}
-
--- numbers that are bytes
-abbrev pub Small : List ℕ → Type 0
-Small b = (j : ℕ) → getD b j 0 < 256
 
 -- the 16-bit number at byte o
 abbrev pub byteShort : List ℕ → ℕ → ℕ
@@ -89,18 +86,6 @@ pub record SoundClaim : Type 0 where
   pub arena : (a : List ℕ) → Length (length a) → infoBlockOf a ≡ countingOf (take 4096 a) (drop (length a - 4096) a)
   pub no-arena : (a : List ℕ) → (Length (length a) → ⊥) → infoBlockOf a ≡ []
 
--- figures that fit their fields
-pub record Fits (f : Figures) : Type 0 where
-  pub size : f .size < 4294967296
-  pub sectors : f .sectors < 4294967296
-  pub internal : f .internal < 4294967296
-  pub blocks : f .blocks < 4294967296
-  pub lanes : f .lanes < 4294967296
-  pub data-start : f .dataoff < 18446744073709551616
-  pub map-start : f .mapoff < 18446744073709551616
-  pub flog-start : f .flogoff < 18446744073709551616
-  pub copy-start : f .copyoff < 18446744073709551616
-
 -- an identifier: 16 bytes
 pub record Identifier (i : List ℕ) : Type 0 where
   pub size : length i ≡ 16
@@ -121,5 +106,5 @@ pub record FreshBlock (first second : List ℕ) (f : Figures) (b : List ℕ) : T
 
 -- the words of a made info block, stored over any 4,096 bytes
 pub record FreshBlockClaim : Type 0 where
-  pub made : (first second : List ℕ) (f : Figures) (a : List ℕ) → Identifier first → Identifier second → Fits f → Small a → length a ≡ 4096
+  pub made : (first second : List ℕ) (f : Figures) (a : List ℕ) → Identifier first → Identifier second → FiguresFit f → Small a → length a ≡ 4096
       → FreshBlock first second f (putWords a 0 (infoWords first second f))

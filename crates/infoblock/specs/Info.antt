@@ -35,9 +35,9 @@ countsNumber Main = 0
 countsNumber Copy = 1
 countsNumber Neither = 2
 
--- the block that counts: the first if sound, else the copy if sound, else no bytes
+-- the block that counts, or no bytes
 unfoldable pub countingOf : List ℕ → List ℕ → List ℕ
-countingOf main copy = cond (sound main) main (cond (sound copy) copy [])
+countingOf main copy = cond (eqb (countsOf main copy) 0) main (cond (eqb (countsOf main copy) 1) copy [])
 
 -- the info block that counts in an arena; no bytes where the length is not allowed
 unfoldable pub infoBlockOf : List ℕ → List ℕ

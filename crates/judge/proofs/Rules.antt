@@ -7,6 +7,7 @@ use Prim.Native.Nat.{ℕ, _≤_, _<_}
 use lib.Dec.{eqb}
 use lib.ListN.{length}
 use borrow.Author.Tests.{eqb-true, lt-ltb, le-ltb, not-false}
+use Rattle.words.specs.Bytes.{Small}
 use Rattle.layout.specs.Fit.{Fit}
 use Rattle.layout.specs.Place.{layoutOf}
 use Rattle.layout.specs.declared.Figures.{Figures}
@@ -30,7 +31,6 @@ use Rattle.machine.specs.calls.Opening.{
   lanesLost,
   unsettled,
 }
-use Rattle.machine.specs.words.InBytes.{Small}
 use Rattle.machine.proofs.rules.Rules.{walked, stop, pass, through, passed-all, answer-append}
 use Rattle.machine.proofs.opening.Described.{Described, described-figures, told-distance}
 use Rattle.machine.proofs.opening.Opens.{some-number-open, lanes-pass}

@@ -8,6 +8,7 @@ use lib.Dec.{ltb}
 use lib.ListN.{length}
 use borrow.Author.Tests.{lt-ltb, le-ltb}
 use Rattle.words.specs.Word.{word}
+use Rattle.words.specs.Bytes.{Small}
 use Rattle.format.specs.Sequence.{newer}
 use Rattle.format.specs.Flog.{newerOfPair, halfAt}
 use Rattle.layout.specs.Place.{Layout, layoutOf, inFlog, at}
@@ -16,7 +17,6 @@ use Rattle.format.specs.declared.flog.Half.{Half}
 use Rattle.layout.proofs.Place.{at-inside}
 use Rattle.machine.specs.state.Flog.{newerHalf, newerWord, newerFlog}
 use Rattle.machine.specs.calls.Opening.{laneReadable}
-use Rattle.machine.specs.words.InBytes.{Small}
 use Rattle.machine.specs.words.Valid.{Readable}
 use Rattle.machine.proofs.stores.Stores.{Arena}
 use Rattle.machine.proofs.opening.Mends.{readable-of}

@@ -19,9 +19,10 @@ use Rattle.layout.specs.Figures.{
   freshFigures,
   figuresAt,
 }
+use Rattle.layout.specs.Place.{layoutOf}
 use Rattle.layout.specs.Claims.{Length, Sizes, LeastMultiple, FreshLayout, Places, FiguresFrom, AllowedClaim, FreshLayoutClaim, PlacesClaim}
 use Rattle.layout.specs.declared.Figures.{Figures}
-use Rattle.layout.proofs.Allowed.{sizes-of, of-sizes, allowed-of, of-allowed, made-allowed}
+use Rattle.layout.proofs.Allowed.{sizes-of, of-sizes, size-words, starts-exact, allowed-of, of-allowed, made-allowed}
 use Rattle.layout.proofs.Offsets.{data-start, map-start, flog-start}
 
 length-is : (n : ℕ) → lengthAllowed n ≡ true → Length n
@@ -80,11 +81,17 @@ made-claim =
     }
 
 places-of : (f : Figures) (n : ℕ) → Allowed f n → Places f
+unfolding layoutOf
 places-of f n ok =
     record {
       in-data = data-start 16 f n ok;
       in-map = map-start 16 f n ok;
       in-flog = λ l h k. flog-start 16 f n ok refl l h k ∙ ap (λ (x : ℕ). f .flogoff + 64 * l + x + 4 * k) (omega arith);
+      copy = starts-exact f n ok .3;
+      sector = omega (arith, size-words f n ok .0);
+      sectors = refl;
+      lanes = refl;
+      blocks = refl;
     }
 
 figures-from : (b : List ℕ) (i j : ℕ) → FiguresFrom b (4 * i) (4 * j) (figuresAt b i j)

@@ -51,7 +51,7 @@ pub record FreshLayout (S E N : ℕ) (f : Figures) (length : ℕ) : Type 0 where
   pub copy-start : LeastMultiple (f .flogoff + 64 * N) (f .copyoff)
   pub end : length ≡ f .copyoff + 4096
 
--- where an arena with those figures has its words, in bytes
+-- where an arena with those figures has its words, in bytes, and how much of each there is
 pub record Places (f : Figures) : Type 0 where
   -- word k of block b
   pub in-data : (b k : ℕ) → 4 * at (layoutOf 16 f) (inData b k) ≡ f .dataoff + b * f .internal + 4 * k
@@ -59,6 +59,13 @@ pub record Places (f : Figures) : Type 0 where
   pub in-map : (s : ℕ) → 4 * at (layoutOf 16 f) (inMap s) ≡ f .mapoff + 4 * s
   -- word k of half h of lane l
   pub in-flog : (l h k : ℕ) → 4 * at (layoutOf 16 f) (inFlog l h k) ≡ f .flogoff + 64 * l + 16 * h + 4 * k
+  -- the copy of the info block
+  pub copy : 4 * (layoutOf 16 f) .copy₀ ≡ f .copyoff
+  -- how many there are: bytes of a sector, sectors, lanes and blocks
+  pub sector : 4 * (layoutOf 16 f) .W ≡ f .size
+  pub sectors : (layoutOf 16 f) .E ≡ f .sectors
+  pub lanes : (layoutOf 16 f) .N ≡ f .lanes
+  pub blocks : (layoutOf 16 f) .I ≡ f .blocks
 
 -- five figures from byte o on, and four starts from byte q on
 pub record FiguresFrom (b : List ℕ) (o q : ℕ) (f : Figures) : Type 0 where

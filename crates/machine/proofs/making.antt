@@ -1,6 +1,5 @@
 pub mod FreshMap
 pub mod FreshBytes
-pub mod FreshInfo
 pub mod FreshWords
 pub mod FreshValid
 pub mod Making

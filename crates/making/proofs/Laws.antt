@@ -1,7 +1,6 @@
 -- Laws of making: a fresh lane word by word, the flog lane by lane, the tail part by part, and making's order.
 use mathlib.Core.Path.{_≡_, refl, sym, ap, _∙_}
 use mathlib.Core.Bool.{true, false}
-use mathlib.Core.Logic.{_≢_}
 use mathlib.Core.List.{List, _∷_, _++_, append-nil}
 use Prim.Native.Nat.{ℕ, zero, suc, _+_, _-_, _*_, _/_, _%_, _≤_, _<_}
 use native.Mathlib.Omega.{arith}
@@ -17,10 +16,6 @@ use Rattle.layout.specs.Told.{alone}
 use Rattle.layout.specs.declared.Figures.{Figures}
 use Rattle.machine.specs.calls.Making.{
   Wanted,
-  MakeRule,
-  wrongSizes,
-  wrongTotal,
-  wrongIdentifier,
   numberMake,
   orderMake,
   testsMake,
@@ -36,6 +31,7 @@ use Rattle.machine.specs.calls.Making.{
 use Rattle.format.proofs.Tests.{and-elim}
 use Rattle.layout.proofs.Allowed.{made-allowed, alone-ok, fit-of}
 use Rattle.machine.proofs.rules.Rules.{Walk, walked, passed-all}
+use Rattle.machine.proofs.making.Making.{some-number-make}
 use Rattle.infoblock.proofs.InfoBlock.{length-of}
 use Rattle.layout.specs.Fit.{Fit}
 
@@ -116,11 +112,6 @@ put-tail-parts d f n a info r =
 pub make-walk : (o : Wanted) (n : ℕ) {k : ℕ} → Walk numberMake (testsMake o n) orderMake k → k ≡ makeNumber o n
 unfolding makeNumber
 make-walk o n w = walked w
-
-some-number-make : (r : MakeRule) → numberMake r ≢ 0
-some-number-make wrongSizes e = omega arith
-some-number-make wrongTotal e = omega arith
-some-number-make wrongIdentifier e = omega arith
 
 -- what making that is not refused gives
 pub record MakingPassed (o : Wanted) (n : ℕ) : Type 0 where

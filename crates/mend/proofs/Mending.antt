@@ -8,12 +8,12 @@ use native.Mathlib.Numerals.{add-one}
 use lib.Dec.{ltb}
 use lib.ListN.{length, take}
 use lib.Seq.{take-all, take-nil, take-append-le}
+use Rattle.words.specs.Bytes.{Small}
 use Rattle.layout.specs.Place.{Layout, layoutOf}
 use Rattle.layout.specs.declared.Figures.{Figures}
 use Rattle.machine.specs.state.Stores.{Store, stored, putAll}
 use Rattle.machine.specs.state.Flog.{newerHalf, newerWord, pending}
 use Rattle.machine.specs.calls.Opening.{laneReadable, mendStore, mends, pendingLanes, twoPending}
-use Rattle.machine.specs.words.InBytes.{Small}
 use Rattle.machine.proofs.stores.Once.{at-most-one}
 use Rattle.machine.proofs.stores.Stores.{putAll-length}
 use Rattle.machine.proofs.opening.Mends.{length-mends, pending-next, mends-take, mends-more, mends-same, mends-newer, mends-newerWord}

@@ -9,6 +9,7 @@ use lib.Dec.{eqb}
 use lib.ListN.{length, take, drop, replicate}
 use borrow.Author.Tests.{eqb-true, ne-eqb}
 use Rattle.words.specs.Word.{putWords, wordsFrom}
+use Rattle.words.specs.Bytes.{Small}
 use Rattle.format.specs.MapWord.{flagsOf, readingOf}
 use Rattle.format.proofs.MapWord.{block-in}
 use Rattle.layout.specs.Place.{layoutOf, inData, at}
@@ -17,7 +18,6 @@ use Rattle.layout.proofs.Allowed.{size-words}
 use Rattle.machine.specs.state.Answer.{numberOf}
 use Rattle.machine.specs.state.Flog.{mapWord, mapBlock}
 use Rattle.machine.specs.state.Handle.{Handle, laidOut, handleAllowed}
-use Rattle.machine.specs.words.InBytes.{Small}
 use Rattle.machine.specs.calls.Reading.{readNumber, readOf, blockBytes}
 use Rattle.machine.specs.declared.answer.Answer.{Answer}
 use Rattle.machine.proofs.calls.Accepted.{ReadFound, read-found}

@@ -1,7 +1,11 @@
 -- Numbers in a list of bytes by byte offset, as document 01 writes them: little-endian.
 use mathlib.Core.List.{List, [], _∷_}
-use Prim.Native.Nat.{ℕ, _+_, _*_}
+use Prim.Native.Nat.{ℕ, _+_, _*_, _<_}
 use lib.ListN.{getD}
+
+-- what every lent slice is: a list of numbers below 256
+abbrev pub Small : List ℕ → Type 0
+Small b = (j : ℕ) → getD b j 0 < 256
 
 -- the 32-bit number at byte o, the least byte first
 abbrev pub byteWord : List ℕ → ℕ → ℕ

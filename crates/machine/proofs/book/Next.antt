@@ -7,11 +7,11 @@ use native.Mathlib.Omega.{arith}
 use native.Mathlib.Decide.{ℕ-discrete}
 use lib.ListN.{length}
 use borrow.Author.Tests.{eq-eqb, ne-eqb}
+use Rattle.words.specs.Bytes.{Small}
 use Rattle.machine.specs.declared.lane.Lane.{Lane}
 use Rattle.machine.specs.state.Lane.{writeStores}
 use Rattle.machine.specs.state.Stores.{Store, stored}
 use Rattle.machine.specs.calls.Opening.{figuresIn, layoutIn}
-use Rattle.machine.specs.words.InBytes.{Small}
 use Rattle.machine.specs.calls.Writing.{laneStored}
 use Rattle.machine.specs.models.Book.{Entry, kept}
 use Rattle.machine.proofs.stores.Members.{each-more}

@@ -11,6 +11,7 @@ use native.Mathlib.Decide.{ℕ-discrete}
 use lib.Dec.{eqb, ltb}
 use lib.ListN.{length, set}
 use borrow.Author.Tests.{lt-ltb, ltb-true, lt-leb, eq-eqb, ne-eqb}
+use Rattle.words.specs.Bytes.{Small}
 use Rattle.format.proofs.Tests.{true-false, and-intro}
 use Rattle.machine.specs.Rules.{answer}
 use Rattle.machine.specs.declared.lane.Lane.{Lane}
@@ -18,7 +19,6 @@ use Rattle.machine.specs.state.Lane.{startedLane, writeStores, isBusy}
 use Rattle.machine.specs.state.Handle.{laneAt, ToldOk, laidOut}
 use Rattle.machine.specs.state.Flog.{mapBlock}
 use Rattle.machine.specs.calls.Opening.{figuresIn, layoutIn}
-use Rattle.machine.specs.words.InBytes.{Small}
 use Rattle.machine.specs.calls.Writing.{
   planOf,
   storeAt,

@@ -24,6 +24,7 @@ use native.Mathlib.Omega.{arith}
 use native.Mathlib.Decide.{decLt}
 use lib.ListN.{length}
 use Rattle.words.specs.Word.{word}
+use Rattle.words.specs.Bytes.{Small}
 use Rattle.format.proofs.Tests.{true-false}
 use Rattle.layout.specs.Place.{Place, InRange, inData, inMap, at}
 use Rattle.layout.proofs.Place.{at-inj}
@@ -31,7 +32,6 @@ use Rattle.machine.specs.state.Lane.{writeStores}
 use Rattle.machine.specs.state.Stores.{Store, putAll}
 use Rattle.machine.specs.state.Flog.{mapBlock, mapWord, freeOf}
 use Rattle.machine.specs.calls.Opening.{figuresIn, layoutIn}
-use Rattle.machine.specs.words.InBytes.{Small}
 use Rattle.machine.specs.calls.Writing.{storeAt}
 use Rattle.machine.specs.models.Book.{Entry, planIn, storesIn, kept}
 use Rattle.machine.specs.claims.DemandThree.{Differ, SameMembers, ShareNone}

@@ -8,13 +8,13 @@ use Prim.Native.Nat.{ℕ, _-_}
 use native.Mathlib.Omega.{arith}
 use lib.Dec.{eqb, ltb}
 use lib.ListN.{length, take, drop}
+use Rattle.words.specs.Bytes.{Small}
 use Rattle.format.proofs.Tests.{by-bool}
 use Rattle.layout.specs.Figures.{lengthAllowed}
 use Rattle.infoblock.specs.Info.{infoBlockOf, infoAllowed, flagsAllowed}
 use Rattle.infoblock.proofs.InfoBlock.{info-in, counting-main, counting-copy}
 use Rattle.machine.specs.Rules.{answer}
 use Rattle.machine.specs.calls.Opening.{layoutIn, openNumber, openOf, cutOpenOf, lanesLost, wordBad, unsettled}
-use Rattle.machine.specs.words.InBytes.{Small}
 use Rattle.layout.specs.Claims.{Length}
 use Rattle.infoblock.specs.Claims.{Sound}
 use Rattle.machine.specs.claims.DemandOne.{InfoBlockShown, CutOpening, DemandOne}

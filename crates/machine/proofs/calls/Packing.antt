@@ -17,13 +17,15 @@ use Rattle.layout.specs.Told.{alone}
 use Rattle.machine.specs.declared.handle.Handle as packed
 use Rattle.machine.specs.declared.lane.Lane.{Lane}
 use Rattle.machine.specs.state.Lane.{noLane}
-use Rattle.machine.specs.state.Handle.{Handle, laneAt}
+use Rattle.machine.specs.state.Handle.{Handle, noHandle, laneAt}
 use Rattle.machine.specs.state.Packed.{unpacked, repacked, packedUp, zeroHandle}
 use Rattle.machine.specs.calls.Opening.{layoutIn, foundLanes, handleFor, openNumber, openOf}
 use Rattle.machine.specs.calls.Writing.{startNumber, startOf, stepNumber, stepOf, stepsOf, writeNumber, writeOf}
 use Rattle.machine.specs.calls.History.{Call, read, start, step, write, State, outcomeState, after}
+use Rattle.machine.specs.words.Records.{Idle, ZeroPacked}
 use Rattle.machine.specs.claims.Packing.{PackedAfter, PackingClaim}
 use Rattle.machine.proofs.calls.Packed.{repacked-self}
+use Rattle.machine.proofs.calls.Records.{idle-is, zero-figures}
 use Rattle.machine.proofs.invariant.Lanes.{found-length}
 use Rattle.machine.proofs.invariant.Histories.{alike-after}
 use Rattle.machine.proofs.opening.Described.{told-alone}
@@ -83,6 +85,9 @@ stands p h d n = λ i. record { length = h .length; distance = sym d i; figures 
     whole : take (h .figures .lanes) (h .lanes ++ drop (length (h .lanes)) (p .lanes)) ≡ h .lanes
     whole = take-at (h .lanes) (drop (length (h .lanes)) (p .lanes)) (h .figures .lanes) n
 
+zero-packed : ZeroPacked (packedUp noHandle)
+zero-packed = record { total = refl; figures = zero-figures; records = refl; lanes = λ l. idle-is 0 0 0 _ (zero-at maxLanes l) }
+
 -- ---- the claim
 
 module _ (a : List ℕ) (p : packed.Handle) (c : Call) (room : p .figures .lanes ≤ length (p .lanes)) where
@@ -101,20 +106,23 @@ module _ (a : List ℕ) (p : packed.Handle) (c : Call) (room : p .figures .lanes
       }
 
 module _ (a work : List ℕ) where
-  refused : (openOf alone a work) .number ≢ 0 → packedUp ((openOf alone a work) .handle) ≡ zeroHandle
+  refused : (openOf alone a work) .number ≢ 0 → ZeroPacked (packedUp ((openOf alone a work) .handle))
   unfolding openOf
-  refused n = rw (ne-eqb (openNumber alone a (length work)) 0 n)
+  refused n = rw (ne-eqb (openNumber alone a (length work)) 0 n) zero-packed
 
   accepted : (openOf alone a work) .number ≡ 0 → unpacked (packedUp ((openOf alone a work) .handle)) ≡ (openOf alone a work) .handle
   unfolding handleFor layoutOf
   accepted e = rw (opened-handle alone told-alone a work e) (stands zeroHandle (handleFor alone a) refl (found-length (layoutIn alone a) a ((layoutIn alone a) .N)))
 
-  zero-past : (l : ℕ) → (openOf alone a work) .handle .figures .lanes ≤ l → laneAt ((packedUp ((openOf alone a work) .handle)) .lanes) l ≡ noLane
+  none-past : (l : ℕ) → (openOf alone a work) .handle .figures .lanes ≤ l → laneAt ((packedUp ((openOf alone a work) .handle)) .lanes) l ≡ noLane
   unfolding openOf handleFor layoutOf
-  zero-past l = by-bool (eqb (openNumber alone a (length work)) 0) _
+  none-past l = by-bool (eqb (openNumber alone a (length work)) 0) _
       (λ t. rw t (λ u. past-put (foundLanes (layoutIn alone a) a ((layoutIn alone a) .N)) (replicate maxLanes noLane) l
       (omega (arith, found-length (layoutIn alone a) a ((layoutIn alone a) .N))) ∙ zero-at maxLanes l))
       (λ t. rw t (λ u. zero-at maxLanes l))
+
+  zero-past : (l : ℕ) → (openOf alone a work) .handle .figures .lanes ≤ l → Idle 0 0 0 (laneAt ((packedUp ((openOf alone a work) .handle)) .lanes) l)
+  zero-past l u = idle-is 0 0 0 _ (none-past l u)
 
 pub packing-claim : PackingClaim
 packing-claim = record {

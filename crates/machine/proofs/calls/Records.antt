@@ -3,7 +3,8 @@ use mathlib.Core.Path.{_≡_, refl}
 use Prim.Native.Nat.{ℕ}
 use Rattle.machine.specs.declared.lane.Lane.{Lane}
 use Rattle.machine.specs.state.Lane.{idleLane, startedLane, storedLane}
-use Rattle.machine.specs.words.Records.{Idle, Started, OneMore}
+use Rattle.machine.specs.state.Handle.{noFigures, noHandle}
+use Rattle.machine.specs.words.Records.{Idle, Started, OneMore, ZeroFigures, ZeroHandle}
 
 pub idle-fields : (b h q : ℕ) → Idle b h q (idleLane b h q)
 idle-fields b h q = record { busy = refl; block = refl; half = refl; sequence = refl; sector = refl; old = refl; made = refl }
@@ -16,3 +17,20 @@ started-fields r s o = record { busy = refl; block = refl; half = refl; sequence
 
 pub stored-fields : (r : Lane) → OneMore r (storedLane r)
 stored-fields r = record { busy = refl; block = refl; half = refl; sequence = refl; sector = refl; old = refl; made = refl }
+
+pub zero-figures : ZeroFigures noFigures
+zero-figures =
+    record {
+      size = refl;
+      sectors = refl;
+      internal = refl;
+      blocks = refl;
+      lanes = refl;
+      data-start = refl;
+      map-start = refl;
+      flog-start = refl;
+      copy-start = refl;
+    }
+
+pub zero-handle : ZeroHandle noHandle
+zero-handle = record { total = refl; figures = zero-figures; lanes = refl }

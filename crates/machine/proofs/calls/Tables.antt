@@ -11,7 +11,7 @@ use lib.Dec.{ltb}
 use lib.ListN.{length, take, drop, length-set, List·getD-eq-default}
 use borrow.Author.Tests.{eq-eqb, ne-eqb}
 use Rattle.words.specs.Word.{word, putWord}
-use Rattle.words.specs.Bytes.{byteWord}
+use Rattle.words.specs.Bytes.{Small, byteWord}
 use Rattle.words.proofs.Laws.{length-putWord, getD-putWord-other, word-putWord-same}
 use Rattle.format.specs.MapWord.{flagsOf, blockOf}
 use Rattle.layout.specs.Figures.{Allowed}
@@ -24,7 +24,7 @@ use Rattle.machine.specs.declared.lane.Lane.{Lane}
 use Rattle.machine.specs.state.Handle.{Handle, laneAt, withLane, laidOut}
 use Rattle.machine.specs.state.Lane.{noLane, startedLane, laneAfter, finishedLane, writeStores}
 use Rattle.machine.specs.state.Flog.{mapWord, mapBlock}
-use Rattle.machine.specs.words.InBytes.{Small, mapByte}
+use Rattle.machine.specs.words.InBytes.{mapByte}
 use Rattle.machine.specs.words.Running.{HandleOk}
 use Rattle.machine.specs.calls.Reading.{readOf, blockBytes}
 use Rattle.machine.specs.calls.Writing.{Outcome, planOf, flogStore, storeAt, laneStored, startOf, stepOf, stepsOf, writeOf}

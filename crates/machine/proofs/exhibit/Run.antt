@@ -5,6 +5,7 @@ use mathlib.Core.List.{List, [], _∷_, _++_, map, Memᴰ·of-map}
 use Prim.Native.Nat.{ℕ, _+_, _≤_, _<_}
 use native.Mathlib.Omega.{arith}
 use lib.ListN.{length, replicate, length-replicate}
+use Rattle.words.specs.Bytes.{Small}
 use Rattle.format.proofs.Below.{below-replicate}
 use Rattle.layout.specs.Figures.{freshLength, freshFigures}
 use Rattle.layout.specs.Place.{layoutOf}
@@ -14,7 +15,6 @@ use Rattle.machine.specs.state.Handle.{noHandle}
 use Rattle.machine.specs.state.Flog.{mapWord}
 use Rattle.machine.specs.calls.Opening.{layoutIn, figuresIn, openOf, cutOpenOf}
 use Rattle.machine.specs.calls.Writing.{stepOf}
-use Rattle.machine.specs.words.InBytes.{Small}
 use Rattle.machine.specs.claims.Making.{FreshArena}
 use Rattle.machine.specs.calls.History.{
   runs,

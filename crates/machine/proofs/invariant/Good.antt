@@ -9,6 +9,7 @@ use native.Mathlib.Omega.{arith}
 use lib.ListN.{length}
 use borrow.Author.Tests.{lt-ltb}
 use Rattle.words.proofs.Laws.{length-putWord}
+use Rattle.words.specs.Bytes.{Small}
 use Rattle.layout.specs.Figures.{figuresAllowed}
 use Rattle.layout.specs.Place.{Layout, layoutOf, InRange, at}
 use Rattle.infoblock.specs.Info.{infoBlockOf, headerAllowed, figuresOf}
@@ -19,7 +20,6 @@ use Rattle.machine.specs.state.Lane.{laneAllowed, isBusy}
 use Rattle.machine.specs.state.Handle.{laneAt, ToldOk}
 use Rattle.machine.specs.state.Stores.{Store, stored, putAll}
 use Rattle.machine.specs.calls.Opening.{figuresIn, layoutIn, openOf, handleFor}
-use Rattle.machine.specs.words.InBytes.{Small}
 use Rattle.machine.proofs.stores.Members.{each-one}
 use Rattle.machine.proofs.stores.Stores.{putAll-one, putAll-none}
 use Rattle.machine.proofs.invariant.Inv.{LaneInv, Inv}

@@ -10,6 +10,7 @@ use lib.Dec.{eqb}
 use lib.ListN.{length}
 use borrow.Author.Tests.{eqb-true, eq-eqb}
 use Rattle.words.proofs.Laws.{length-putWord}
+use Rattle.words.specs.Bytes.{Small}
 use Rattle.format.specs.MapWord.{badWord}
 use Rattle.format.proofs.Tests.{true-false, and-intro, every-intro, some-elim}
 use Rattle.format.proofs.MapWord.{badWord-false}
@@ -22,7 +23,6 @@ use Rattle.machine.specs.state.Lane.{laneAllowed, startedLane, writeStor
 use Rattle.machine.specs.state.Stores.{Store, stored}
 use Rattle.machine.specs.state.Flog.{mapWord, mapBlock}
 use Rattle.machine.specs.calls.Opening.{openOf, handleFor, layoutIn, mends}
-use Rattle.machine.specs.words.InBytes.{Small}
 use Rattle.machine.specs.calls.Judging.{inFlight}
 use Rattle.machine.specs.calls.Writing.{
   planOf,

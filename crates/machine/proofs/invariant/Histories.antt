@@ -8,9 +8,9 @@ use lib.Dec.{eqb}
 use lib.ListN.{length}
 use borrow.Author.Tests.{eqb-true}
 use Rattle.words.proofs.Laws.{length-putWord}
+use Rattle.words.specs.Bytes.{Small}
 use Rattle.format.proofs.Tests.{by-bool}
 use Rattle.machine.specs.calls.Opening.{figuresIn, layoutIn, mends, openOf}
-use Rattle.machine.specs.words.InBytes.{Small}
 use Rattle.machine.specs.calls.Writing.{startNumber, startOf, stepNumber, stepOf, stepsOf, writeNumber, writeOf}
 use Rattle.machine.specs.calls.History.{
   runs,

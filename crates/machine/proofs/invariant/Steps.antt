@@ -11,6 +11,7 @@ use lib.ListN.{set}
 use borrow.Author.Tests.{eq-eqb, ne-eqb}
 use Rattle.words.specs.Word.{word}
 use Rattle.words.proofs.Laws.{word-lt}
+use Rattle.words.specs.Bytes.{Small}
 use Rattle.format.specs.Sequence.{successor}
 use Rattle.format.specs.MapWord.{blockOf}
 use Rattle.format.proofs.Tests.{true-false}
@@ -20,7 +21,6 @@ use Rattle.machine.specs.state.Lane.{startedLane, storedLane, finishedLa
 use Rattle.machine.specs.state.Handle.{laneAt}
 use Rattle.machine.specs.state.Stores.{Store, stored}
 use Rattle.machine.specs.state.Flog.{mapBlock, flogWord, newerHalf}
-use Rattle.machine.specs.words.InBytes.{Small}
 use Rattle.machine.specs.calls.Writing.{planOf, flogStore, storeAt, laneStored}
 use Rattle.machine.proofs.stores.Once.{once-same}
 use Rattle.machine.proofs.stores.Stores.{Fits, elsewhere, stored-word, stored-arena}

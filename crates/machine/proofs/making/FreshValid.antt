@@ -15,8 +15,8 @@ use Rattle.infoblock.specs.Info.{sound, infoBlockOf, figuresOf, infoWords}
 use Rattle.infoblock.specs.Claims.{Identifier, FreshBlock}
 use Rattle.layout.specs.declared.Figures.{Figures}
 use Rattle.format.proofs.Below.{Below, below-take}
-use Rattle.layout.proofs.Allowed.{layout-ok, layout-exact, alone-ok}
-use Rattle.infoblock.proofs.InBytes.{sound-claim}
+use Rattle.layout.proofs.Allowed.{layout-ok, layout-exact, alone-ok, allowed-fits}
+use Rattle.infoblock.proofs.InBytes.{sound-claim, figures-are}
 use Rattle.infoblock.proofs.FreshBlock.{info-length, info-below, made-block}
 use Rattle.infoblock.proofs.InfoBlock.{length-of, info-in, counting-main}
 use Rattle.machine.specs.state.Lane.{idleLane}
@@ -29,7 +29,6 @@ use Rattle.machine.proofs.opening.Opens.{zero-open, opened-lane}
 use Rattle.machine.proofs.opening.Reflect.{length-ok}
 use Rattle.machine.proofs.opening.Answers.{valid-opens}
 use Rattle.machine.proofs.making.FreshMap.{Fresh, lane-fresh, pending-none, mended-same, readable, no-bad-word, settled}
-use Rattle.machine.proofs.making.FreshInfo.{fits-of, figures-fresh}
 use Rattle.machine.proofs.making.FreshWords.{made, Room, made-length, made-fresh, made-kept, made-bytes, main-length, main-word, made-copy}
 use Rattle.layout.specs.Told.{alone}
 use Rattle.machine.proofs.opening.Described.{told-alone}
@@ -66,7 +65,7 @@ module _ (first second : List ℕ) (f : Figures) (a : List ℕ) (d : Given first
         half = half f;
         exact = layout-exact 16 f (length a) (d .ok);
         block = info-length first second f;
-        below = info-below first second f (d .first-ok .bytes) (d .second-ok .bytes) (fits-of f (length a) (d .ok) most);
+        below = info-below first second f (d .first-ok .bytes) (d .second-ok .bytes) (allowed-fits f (length a) (d .ok) most);
       }
 
   pub same-length : length m ≡ length a
@@ -115,7 +114,7 @@ module _ (first second : List ℕ) (f : Figures) (a : List ℕ) (d : Given first
 
   pub figures-in : figuresIn m ≡ f
   unfolding main
-  figures-in = ap figuresOf block ∙ figures-fresh main f (main-block .figures)
+  figures-in = ap figuresOf block ∙ figures-are main f (main-block .figures)
 
   pub layout-in : layoutIn alone m ≡ layoutOf 16 f
   layout-in = ap (layoutOf 16) figures-in
@@ -130,7 +129,7 @@ module _ (first second : List ℕ) (f : Figures) (a : List ℕ) (d : Given first
   info-ok =
       record {
         header = main-block .header;
-        figures = subst (λ (x : Figures). Allowed x (length a)) (sym (figures-fresh main f (main-block .figures))) (d .ok);
+        figures = subst (λ (x : Figures). Allowed x (length a)) (sym (figures-are main f (main-block .figures))) (d .ok);
       }
 
   pub valid : Valid alone m

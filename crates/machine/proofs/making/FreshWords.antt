@@ -2,7 +2,7 @@
 -- A stored word is read off the run that stored it, at its place in the list.
 use mathlib.Core.Path.{_≡_, refl, sym, ap, _∙_}
 use mathlib.Core.Logic.{inl, inr}
-use mathlib.Core.List.{List, [], _∷_}
+use mathlib.Core.List.{List}
 use Prim.Native.Nat.{ℕ, zero, suc, _+_, _-_, _*_, _≤_, _<_}
 use native.Mathlib.Omega.{arith}
 use native.Mathlib.Nat.{zero-add, add-zero}
@@ -12,7 +12,7 @@ use Rattle.words.proofs.Laws.{word-take, word-drop, ext-word}
 use Rattle.words.proofs.Runs.{length-putWords, putWords-bytes, word-putWords-out, word-putWords-in, getD-putWords-out}
 use Rattle.layout.specs.Place.{Layout, LayoutOk, inMap, inFlog, at}
 use Rattle.infoblock.proofs.FreshBlock.{getD-past}
-use Rattle.format.proofs.Below.{Below, below-append, below-replicate, below-each, below-take, below-drop, none, _◂_}
+use Rattle.format.proofs.Below.{Below, below-append, below-replicate, below-take, below-drop}
 use Rattle.machine.specs.state.Flog.{flogWord}
 use Rattle.machine.specs.calls.Making.{freshLane, freshFlog, dataEnd, tailWords}
 use Rattle.machine.proofs.making.FreshMap.{Fresh}
@@ -37,15 +37,18 @@ flog-at e i (suc n) (suc l) j u v =
     (getD-past (freshLane e i) (freshFlog e (suc i) n) 16 (16 * l + j) refl ∙ flog-at e (suc i) n l j (omega arith) v
     ∙ ap (λ (k : ℕ). getD (freshLane e k) j 0) q)
 
+lane-below : (e i : ℕ) → e + i < 1073741824 → Below 4294967296 (freshLane e i)
+lane-below e i h zero = omega arith
+lane-below e i h (suc zero) = omega arith
+lane-below e i h (suc (suc zero)) = omega arith
+lane-below e i h (suc (suc (suc zero))) = omega arith
+lane-below e i h (suc (suc (suc (suc j)))) = below-replicate 4294967296 12 0 (omega arith) j
+
 flog-below : (e i n : ℕ) → e + (i + n) ≤ 1073741824 → Below 4294967296 (freshFlog e i n)
 unfolding freshFlog
 flog-below e i zero h = λ j. omega arith
 flog-below e i (suc n) h =
-    below-append 4294967296 (freshLane e i) (freshFlog e (suc i) n)
-    (below-append 4294967296 (i ∷ (e + i) ∷ (e + i) ∷ 1 ∷ []) (replicate 12 0)
-    (below-each 4294967296 _ (omega arith) (omega arith ◂ omega arith ◂ omega arith ◂ omega arith ◂ none))
-    (below-replicate 4294967296 12 0 (omega arith)))
-    (flog-below e (suc i) n (omega arith))
+    below-append 4294967296 (freshLane e i) (freshFlog e (suc i) n) (lane-below e i (omega arith)) (flog-below e (suc i) n (omega arith))
 
 -- the arena with its two info blocks and all that follows the data blocks
 abbrev pub made : Layout → List ℕ → List ℕ → List ℕ

@@ -8,6 +8,7 @@ use native.Mathlib.Omega.{arith}
 use lib.Dec.{eqb}
 use lib.ListN.{length, drop, replicate, length-replicate}
 use borrow.Author.Tests.{eqb-true, eq-eqb, ne-eqb, not-false}
+use Rattle.words.specs.Bytes.{Small}
 use Rattle.format.specs.MapWord.{flagsOf, readingOf}
 use Rattle.layout.specs.Figures.{lengthAllowed, sizesAllowed, Allowed, freshLength, freshFigures}
 use Rattle.layout.specs.Place.{Layout, layoutOf}
@@ -35,7 +36,6 @@ use Rattle.machine.specs.calls.Making.{
   dataEnd,
 }
 use Rattle.machine.specs.calls.Opening.{layoutIn, openOf, mended}
-use Rattle.machine.specs.words.InBytes.{Small}
 use Rattle.layout.specs.Claims.{Sizes}
 use Rattle.machine.specs.words.Valid.{HoldsMake, AnswersMake}
 use Rattle.machine.specs.claims.Making.{WantedOk, FreshLane, FreshBytes, FreshArena, smallest, MakingClaim}
@@ -96,7 +96,7 @@ answers o a =
 
 -- ---- what is accepted
 
-some-number-make : (r : MakeRule) → numberMake r ≢ 0
+pub some-number-make : (r : MakeRule) → numberMake r ≢ 0
 some-number-make wrongSizes e = omega arith
 some-number-make wrongTotal e = omega arith
 some-number-make wrongIdentifier e = omega arith

@@ -6,6 +6,7 @@ use Prim.Native.Nat.{ℕ, _<_}
 use native.Mathlib.Omega.{arith}
 use lib.ListN.{length}
 use borrow.Author.Tests.{ne-eqb, ltb-true, lt-ltb, not-true, not-false}
+use Rattle.words.specs.Bytes.{Small}
 use Rattle.layout.specs.Figures.{lengthAllowed}
 use Rattle.format.specs.MapWord.{badWord}
 use Rattle.infoblock.specs.Info.{infoBlockOf}
@@ -32,7 +33,6 @@ use Rattle.machine.specs.calls.Opening.{
   wordBad,
   unsettled,
 }
-use Rattle.machine.specs.words.InBytes.{Small}
 use Rattle.machine.specs.words.Valid.{Readable, BadWord, Settled, Valid, HoldsOpen, AnswersOpen}
 use Rattle.machine.specs.claims.Opening.{OpeningAnswers}
 use Rattle.machine.proofs.rules.Rules.{first-in, asked}

@@ -9,9 +9,9 @@ use native.Mathlib.Decide.{ℕ-discrete}
 use lib.Dec.{eqb, ltb}
 use lib.ListN.{length, take}
 use borrow.Author.Tests.{eqb-true}
+use Rattle.words.specs.Bytes.{Small}
 use Rattle.machine.specs.state.Stores.{Store, putAll}
 use Rattle.machine.specs.calls.Opening.{layoutIn, mends, openNumber, openOf, cutOpenOf}
-use Rattle.machine.specs.words.InBytes.{Small}
 use Rattle.machine.specs.claims.Opening.{OneCut, afterCuts, CutsLeaveNoTrace}
 use Rattle.machine.proofs.opening.Mends.{mends-take}
 use Rattle.machine.proofs.opening.Opens.{Opens, open-zero, open-number, zero-open}

@@ -9,6 +9,7 @@ use native.Mathlib.Omega.{arith}
 use lib.Dec.{eqb}
 use lib.ListN.{length}
 use borrow.Author.Tests.{eqb-true}
+use Rattle.words.specs.Bytes.{Small}
 use Rattle.layout.specs.Figures.{lengthAllowed, Allowed}
 use Rattle.layout.specs.Place.{Layout, LayoutOk, InRange, layoutOf}
 use Rattle.layout.specs.declared.Figures.{Figures}
@@ -19,7 +20,6 @@ use Rattle.layout.proofs.Allowed.{allowed-of, layout-ok, layout-exact}
 use Rattle.infoblock.proofs.InfoBlock.{length-of, info-local}
 use Rattle.machine.specs.state.Stores.{Store, putAll}
 use Rattle.machine.specs.calls.Opening.{figuresIn, layoutIn}
-use Rattle.machine.specs.words.InBytes.{Small}
 use Rattle.machine.proofs.stores.Members.{Each}
 use Rattle.machine.proofs.stores.Stores.{Arena, putAll-length, putAll-arena, word-miss}
 use Rattle.layout.specs.Told.{alone, DistanceOk}

@@ -7,7 +7,7 @@ use Prim.Native.Nat.{ℕ, zero, suc, _+_, _-_, _/_, _≤_, _<_}
 use native.Mathlib.Omega.{arith}
 use lib.ListN.{length, getD, take}
 use borrow.Author.Tests.{eqb-true}
-use Rattle.words.specs.Bytes.{byteWord}
+use Rattle.words.specs.Bytes.{Small, byteWord}
 use Rattle.words.proofs.Laws.{getD-putWord-other}
 use Rattle.format.specs.Sequence.{successor}
 use Rattle.format.specs.MapWord.{blockOf, mappedTo}
@@ -21,7 +21,7 @@ use Rattle.machine.specs.state.Handle.{laneAt, ToldOk}
 use Rattle.machine.specs.state.Stores.{putAll}
 use Rattle.machine.specs.state.Flog.{mapWord, flogWord, newerHalf, newerWord, pending}
 use Rattle.machine.specs.calls.Opening.{figuresIn, layoutIn, mends, pendingLanes, mended, handleFor, openOf, cutOpenOf}
-use Rattle.machine.specs.words.InBytes.{Small, flogByte, mapByte, newerIn, sectorIn, oldIn, newIn, sequenceIn, PendingIn, pendingBelow}
+use Rattle.machine.specs.words.InBytes.{flogByte, mapByte, newerIn, sectorIn, oldIn, newIn, sequenceIn, PendingIn, pendingBelow}
 use Rattle.machine.specs.claims.Opening.{LaneAsFound, HandleAsFound, MendedFor, Mended, MendedUpTo}
 use Rattle.machine.proofs.stores.Stores.{putAll-length}
 use Rattle.machine.proofs.opening.Mends.{readable-of, pending-old, mends-take, mend-keeps}

@@ -5,12 +5,12 @@ use mathlib.Core.List.{List}
 use mathlib.Core.Bool.{cond}
 use Prim.Native.Nat.{ℕ, _≤_}
 use lib.Dec.{ltb}
+use Rattle.words.specs.Bytes.{Small}
 use Rattle.layout.specs.Place.{Layout, layoutOf}
 use Rattle.infoblock.specs.Info.{infoBlockOf, figuresOf}
 use Rattle.machine.specs.Rules.{answer}
 use Rattle.machine.specs.state.Stores.{putAll}
 use Rattle.machine.specs.calls.Opening.{layoutIn, mends, mended, openNumber, workAfter, handleFor}
-use Rattle.machine.specs.words.InBytes.{Small}
 use Rattle.machine.proofs.stores.Stores.{putAll-length}
 use Rattle.machine.proofs.opening.Mends.{mends-arena, mends-fits}
 use Rattle.machine.proofs.opening.Ghosts.{Consistent}

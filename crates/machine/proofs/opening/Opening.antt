@@ -10,6 +10,7 @@ use lib.Dec.{eqb}
 use lib.ListN.{length, take, length-append, length-replicate, length-drop}
 use lib.Seq.{take-all}
 use borrow.Author.Tests.{eqb-true, eqb-false, ne-eqb, ltb-false}
+use Rattle.words.specs.Bytes.{Small}
 use Rattle.format.proofs.Tests.{by-bool}
 use Rattle.machine.specs.Rules.{answer}
 use Rattle.layout.specs.Place.{layoutOf}
@@ -38,8 +39,8 @@ use Rattle.machine.specs.calls.Opening.{
   openOf,
   cutOpenOf,
 }
-use Rattle.machine.specs.words.InBytes.{Small}
 use Rattle.machine.specs.claims.Opening.{RefusedOpening, WorkAfter, CutAnswers, CountIsPending, OpenedAgain, OpeningClaimFor}
+use Rattle.machine.proofs.calls.Records.{zero-handle}
 use Rattle.machine.proofs.rules.Rules.{passed-all, answer-append}
 use Rattle.machine.proofs.opening.Mends.{length-mends}
 use Rattle.machine.proofs.opening.Consistent.{pending-none}
@@ -80,17 +81,17 @@ module _ (τ : Told) (told : ToldOk τ) where
     unfolding openOf
     refused-open n =
         let e = ne-eqb (openNumber τ a (length work)) 0 n in
-        record { arena = rw e; handle = rw e; mended = rw e }
+        record { arena = rw e; handle = rw e zero-handle; mended = rw e }
 
     refused-cut : (k : ℕ) → (openOf τ a work) .number ≢ 0 → RefusedOpening a (cutOpenOf τ a work k)
     unfolding openOf cutOpenOf
     refused-cut k n =
         let e = ne-eqb (openNumber τ a (length work)) 0 n in
-        record { arena = rw e; handle = refl; mended = rw e }
+        record { arena = rw e; handle = zero-handle; mended = rw e }
 
     cut-answers : (k : ℕ) → CutAnswers τ a work k
     unfolding openOf cutOpenOf
-    cut-answers k = record { number = refl; mended = refl; work-buffer = refl; handle = refl; whole = whole (eqb (openNumber τ a (length work)) 0) }
+    cut-answers k = record { number = refl; mended = refl; work-buffer = refl; handle = zero-handle; whole = whole (eqb (openNumber τ a (length work)) 0) }
       where
         whole : (t : Bool) → cond t (pendingLanes (layoutIn τ a) a ((layoutIn τ a) .N)) 0 ≤ k
             → cond t (putAll (layoutIn τ a) (take k (mends (layoutIn τ a) a ((layoutIn τ a) .N))) a) a ≡ cond t (mended (layoutIn τ a) a) a

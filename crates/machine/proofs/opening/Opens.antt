@@ -9,6 +9,7 @@ use native.Mathlib.Omega.{arith}
 use lib.Dec.{eqb, ltb}
 use lib.ListN.{length}
 use borrow.Author.Tests.{ltb-false, le-ltb, not-false}
+use Rattle.words.specs.Bytes.{Small}
 use Rattle.layout.specs.Figures.{lengthAllowed}
 use Rattle.layout.specs.Place.{Layout, layoutOf}
 use Rattle.format.specs.MapWord.{badWord}
@@ -19,7 +20,6 @@ use Rattle.machine.specs.state.Handle.{Handle, laneAt, ToldOk}
 use Rattle.machine.specs.state.Flog.{mapWord}
 use Rattle.machine.specs.Rules.{answer}
 use Rattle.machine.specs.calls.Opening.{OpenRule, wrongLength, noInfoBlock, forbiddenFigure, flagsSet, shortWork, lostLane, badWords, notValid, numberOpen, orderOpen, testsOpen, lanesLost, wordBad, unsettled, figuresIn, layoutIn, laneReadable, twoPending, openNumber, foundLane, handleFor, openOf}
-use Rattle.machine.specs.words.InBytes.{Small}
 use Rattle.machine.specs.claims.DemandTwo.{AllIdle}
 use Rattle.machine.proofs.rules.Rules.{Passed, passed-all}
 use Rattle.machine.proofs.invariant.Lanes.{found-lane-at}

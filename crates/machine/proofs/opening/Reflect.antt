@@ -8,18 +8,17 @@ use native.Mathlib.Omega.{arith}
 use lib.Dec.{eqb, leb}
 use lib.ListN.{length, take, drop}
 use borrow.Author.Tests.{eqb-true, eqb-false, ne-eqb, lt-ltb, leb-true, le-leb, not-true}
-use Rattle.words.specs.Bytes.{byteWord}
+use Rattle.words.specs.Bytes.{Small, byteWord}
 use Rattle.layout.specs.Figures.{lengthAllowed}
 use Rattle.layout.specs.Place.{Layout}
 use Rattle.layout.specs.declared.Told.{Told}
 use Rattle.format.specs.MapWord.{flagsOf, lowBits, badWord}
-use Rattle.infoblock.specs.Info.{sound, countingOf, infoBlockOf, infoAllowed, flagsAllowed}
+use Rattle.infoblock.specs.Info.{sound, countsOf, countingOf, infoBlockOf, infoAllowed, flagsAllowed}
 use Rattle.format.proofs.Tests.{by-bool, and-elim}
 use Rattle.format.proofs.Below.{below-take, below-drop}
 use Rattle.infoblock.proofs.InfoBlock.{length-of, of-length, info-in, counting-main, counting-copy, counting-none}
 use Rattle.infoblock.proofs.InBytes.{fields-claim, sound-claim}
 use Rattle.machine.specs.calls.Opening.{laneReadable}
-use Rattle.machine.specs.words.InBytes.{Small}
 use Rattle.layout.specs.Claims.{Length}
 use Rattle.infoblock.specs.Claims.{Sound}
 use Rattle.machine.specs.words.Valid.{InfoOk, Readable, BadWord}
@@ -82,8 +81,8 @@ module _ (a : List ℕ) (small : Small a) where
   pub block-small : Small (infoBlockOf a)
   unfolding infoBlockOf countingOf
   block-small =
-      either (lengthAllowed (length a)) _ _
-      (either (sound (take 4096 a)) _ _ main-small (either (sound (drop (length a - 4096) a)) _ _ copy-small none)) none
+      let n = countsOf (take 4096 a) (drop (length a - 4096) a) in
+      either (lengthAllowed (length a)) _ _ (either (eqb n 0) _ _ main-small (either (eqb n 1) _ _ copy-small none)) none
     where
       none : Small []
       none j = omega arith

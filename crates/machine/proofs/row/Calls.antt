@@ -9,13 +9,13 @@ use native.Mathlib.Numerals.{add-one}
 use lib.Dec.{eqb}
 use lib.ListN.{length}
 use borrow.Author.Tests.{eqb-true, eq-eqb, ne-eqb, lt-leb}
+use Rattle.words.specs.Bytes.{Small}
 use Rattle.format.proofs.Tests.{by-bool}
 use Rattle.layout.specs.Place.{Layout, layoutOf}
 use Rattle.layout.specs.declared.Figures.{Figures}
 use Rattle.machine.specs.Rules.{answer}
 use Rattle.machine.specs.state.Handle.{Handle, laidOut, ToldOk}
 use Rattle.machine.specs.state.Lane.{writeStores}
-use Rattle.machine.specs.words.InBytes.{Small}
 use Rattle.machine.specs.calls.Writing.{Outcome, startNumber, startOf, stepNumber, stepOf, stepsOf, writeNumber, writeOf}
 use Rattle.machine.specs.calls.History.{start, step, write, State, after}
 use Rattle.machine.specs.models.Row.{holds, Flight, idle, flying, Row, put, rowNumber, rowAfter, SameFlight}

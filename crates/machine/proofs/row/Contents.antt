@@ -11,13 +11,13 @@ use lib.ListN.{length, take, drop, replicate, length-drop}
 use lib.Seq.{length-take-le}
 use Rattle.words.specs.Word.{word}
 use Rattle.words.proofs.Laws.{ext-word, word-take, word-drop}
+use Rattle.words.specs.Bytes.{Small}
 use Rattle.format.specs.MapWord.{flagsOf, readingOf, blockOf, mappedTo}
 use Rattle.format.proofs.MapWord.{block-mapped, flags-mapped}
 use Rattle.format.proofs.Below.{below-take, below-drop}
 use Rattle.layout.specs.Place.{Layout, LayoutOk, layoutOf, inData, at}
 use Rattle.layout.specs.declared.Figures.{Figures}
 use Rattle.machine.specs.state.Flog.{mapWord, mapBlock}
-use Rattle.machine.specs.words.InBytes.{Small}
 use Rattle.machine.specs.models.Row.{Sector, holds, bad}
 use Rattle.machine.proofs.stores.Stores.{Arena}
 

@@ -5,10 +5,10 @@ use mathlib.Core.List.{List, [], _∷_, List·Memᴰ·head, List·Memᴰ·tail}
 use mathlib.Core.Bool.{false}
 use Prim.Native.Nat.{ℕ, _≤_, _<_}
 use lib.ListN.{length, replicate}
+use Rattle.words.specs.Bytes.{Small}
 use Rattle.layout.specs.declared.Figures.{Figures}
 use Rattle.machine.specs.state.Handle.{laneAt, laidOut, ToldOk}
 use Rattle.machine.specs.calls.Opening.{figuresIn, openOf}
-use Rattle.machine.specs.words.InBytes.{Small}
 use Rattle.machine.specs.calls.Reading.{readOf}
 use Rattle.machine.specs.calls.History.{
   runs,

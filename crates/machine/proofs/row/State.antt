@@ -5,11 +5,11 @@ use mathlib.Core.List.{List}
 use mathlib.Core.Bool.{true, cond}
 use Prim.Native.Nat.{ℕ, _<_}
 use lib.ListN.{length}
+use Rattle.words.specs.Bytes.{Small}
 use Rattle.layout.specs.Place.{layoutOf}
 use Rattle.layout.specs.declared.Figures.{Figures}
 use Rattle.machine.specs.declared.lane.Lane.{Lane}
 use Rattle.machine.specs.state.Handle.{Handle, laneAt, laidOut, ToldOk}
-use Rattle.machine.specs.words.InBytes.{Small}
 use Rattle.machine.specs.models.Row.{Flight, idle, flying, Row}
 use Rattle.machine.proofs.invariant.Held.{Held}
 use Rattle.machine.proofs.row.Contents.{contentOf, Filled}

@@ -12,6 +12,7 @@ use lib.ListN.{length, set}
 use borrow.Author.Tests.{eq-eqb, ne-eqb}
 use Rattle.words.specs.Word.{word}
 use Rattle.words.proofs.Laws.{word-lt}
+use Rattle.words.specs.Bytes.{Small}
 use Rattle.format.proofs.Tests.{true-false}
 use Rattle.layout.specs.Place.{Layout, layoutOf, Place, inData, inMap, inFlog, InRange, at}
 use Rattle.layout.specs.declared.Figures.{Figures}
@@ -20,7 +21,6 @@ use Rattle.machine.specs.state.Handle.{Handle, laneAt, withLane, laidOut
 use Rattle.machine.specs.state.Lane.{startedLane, storedLane, finishedLane, isBusy}
 use Rattle.machine.specs.state.Stores.{Store, stored}
 use Rattle.machine.specs.state.Flog.{mapBlock}
-use Rattle.machine.specs.words.InBytes.{Small}
 use Rattle.machine.specs.calls.Writing.{planOf, storeAt, laneStored}
 use Rattle.machine.specs.models.Row.{Sector, holds, Flight, idle, flying, Row, put, storesOf, stepped, SameFlight}
 use Rattle.machine.proofs.stores.Once.{free-unmapped, free-apart}

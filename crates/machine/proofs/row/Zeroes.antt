@@ -3,11 +3,11 @@ use mathlib.Core.Path.{_≡_, sym, ap, _∙_}
 use mathlib.Core.List.{List}
 use Prim.Native.Nat.{ℕ, _+_, _≤_, _<_}
 use lib.ListN.{length, replicate}
+use Rattle.words.specs.Bytes.{Small}
 use Rattle.layout.specs.Figures.{freshFigures}
 use Rattle.layout.specs.Place.{layoutOf}
 use Rattle.layout.specs.declared.Figures.{Figures}
 use Rattle.machine.specs.calls.Making.{Wanted, makeOf}
-use Rattle.machine.specs.words.InBytes.{Small}
 use Rattle.machine.specs.claims.DemandTwo.{HasZeroes}
 use Rattle.machine.specs.claims.Making.{FreshArena}
 use Rattle.machine.specs.calls.Reading.{readOf}

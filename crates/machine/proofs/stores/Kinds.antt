@@ -8,11 +8,11 @@ use native.Mathlib.Decide.{decLt}
 use borrow.Author.Tests.{lt-ltb, le-ltb}
 use Rattle.words.specs.Word.{word}
 use Rattle.words.proofs.Laws.{word-lt}
+use Rattle.words.specs.Bytes.{Small}
 use Rattle.format.specs.MapWord.{mappedTo}
 use Rattle.layout.specs.Place.{Layout, LayoutOk, inData, inMap, inFlog, InRange}
 use Rattle.machine.specs.declared.lane.Lane.{Lane}
 use Rattle.machine.specs.state.Handle.{laneAt}
-use Rattle.machine.specs.words.InBytes.{Small}
 use Rattle.machine.specs.calls.Writing.{Plan, planOf, flogStore, storeAt}
 use Rattle.machine.proofs.stores.Stores.{Fits}
 use Rattle.machine.proofs.invariant.Inv.{Inv}

@@ -3,13 +3,13 @@ use mathlib.Core.List.{List, [], _∷_, List·Memᴰ}
 use mathlib.Core.Bool.{cond}
 use Prim.Native.Nat.{ℕ}
 use lib.Dec.{eqb}
+use Rattle.words.specs.Bytes.{Small}
 use Rattle.layout.specs.declared.Told.{Told}
 use Rattle.machine.specs.state.Handle.{Handle}
 pub use Rattle.machine.specs.calls.Order.{Call, read, start, step, write}
 use Rattle.machine.specs.calls.Opening.{Opening, openOf}
 use Rattle.machine.specs.calls.Reading.{readOf}
 use Rattle.machine.specs.calls.Writing.{Outcome, startOf, stepOf, writeOf}
-use Rattle.machine.specs.words.InBytes.{Small}
 
 -- ---- lists of any steps: each is given what the last one left
 

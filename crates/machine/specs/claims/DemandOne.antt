@@ -5,10 +5,10 @@ use mathlib.Core.Logic.{_≢_, _⊎_}
 use mathlib.Core.List.{List, []}
 use Prim.Native.Nat.{ℕ, _-_}
 use lib.ListN.{length, take, drop}
+use Rattle.words.specs.Bytes.{Small}
 use Rattle.infoblock.specs.Info.{infoBlockOf}
 use Rattle.layout.specs.Told.{alone}
 use Rattle.machine.specs.calls.Opening.{openOf, cutOpenOf}
-use Rattle.machine.specs.words.InBytes.{Small}
 use Rattle.layout.specs.Claims.{Length}
 use Rattle.infoblock.specs.Claims.{Sound}
 use Rattle.machine.specs.words.Valid.{AnswersOpen}

@@ -4,6 +4,7 @@ use mathlib.Core.Logic.{_≢_}
 use mathlib.Core.List.{List, [], _∷_, _++_, List·Memᴰ, List·Permᴰ}
 use Prim.Native.Nat.{ℕ, zero, suc, _+_, _-_, _≤_, _<_, _/_}
 use lib.ListN.{length, replicate}
+use Rattle.words.specs.Bytes.{Small}
 use Rattle.format.specs.Sequence.{successor}
 use Rattle.layout.specs.Place.{Layout, at}
 use Rattle.layout.specs.Told.{alone}
@@ -14,7 +15,6 @@ use Rattle.machine.specs.state.Stores.{Store, putAll}
 use Rattle.machine.specs.state.Flog.{mapBlock, newerHalf, newerWord, freeOf}
 use Rattle.machine.specs.calls.Opening.{figuresIn, layoutIn, mends, pendingLanes, openOf}
 use Rattle.machine.specs.words.Records.{Idle}
-use Rattle.machine.specs.words.InBytes.{Small}
 use Rattle.machine.specs.words.Valid.{EachOnce}
 use Rattle.machine.specs.claims.Opening.{OneCut, afterCuts}
 use Rattle.machine.specs.calls.Reading.{readOf}

@@ -3,12 +3,12 @@ use mathlib.Core.Path.{_≡_}
 use mathlib.Core.List.{List}
 use Prim.Native.Nat.{ℕ, _+_, _≤_, _<_}
 use lib.ListN.{length, replicate}
+use Rattle.words.specs.Bytes.{Small}
 use Rattle.layout.specs.Told.{alone}
 use Rattle.layout.specs.declared.Told.{Told}
 use Rattle.machine.specs.state.Handle.{Handle, laneAt}
 use Rattle.machine.specs.calls.Making.{Wanted, makeOf}
 use Rattle.machine.specs.calls.Opening.{figuresIn, openOf}
-use Rattle.machine.specs.words.InBytes.{Small}
 use Rattle.machine.specs.calls.Reading.{readOf}
 use Rattle.machine.specs.calls.Writing.{startOf, stepOf, writeOf}
 use Rattle.machine.specs.calls.History.{runs, State, openedFrom, SmallEvents}

@@ -4,13 +4,13 @@ use mathlib.Core.Path.{_≡_}
 use mathlib.Core.List.{List, [], _∷_, _++_, map}
 use Prim.Native.Nat.{ℕ, _+_}
 use lib.ListN.{length, replicate}
+use Rattle.words.specs.Bytes.{Small}
 use Rattle.layout.specs.Told.{alone}
 use Rattle.machine.specs.state.Handle.{noHandle}
 use Rattle.machine.specs.calls.Making.{Wanted, makeOf}
 use Rattle.machine.specs.calls.Opening.{figuresIn, openOf}
 use Rattle.machine.specs.calls.History.{Call, read, start, step, write, State, run, reply, called, opened, openedFrom, SmallEvents}
 use Rattle.machine.specs.calls.Asides.{Happening, latest, aside, shortened, latestOf, AllHarmless}
-use Rattle.machine.specs.words.InBytes.{Small}
 use Rattle.machine.specs.models.Row.{OneBuffer, firstRow}
 use Rattle.machine.specs.models.Book.{bookAfter}
 use Rattle.machine.specs.claims.DemandThree.{Listed}

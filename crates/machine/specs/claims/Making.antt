@@ -4,7 +4,7 @@ use mathlib.Core.Logic.{_≢_}
 use mathlib.Core.List.{List, [], _∷_}
 use Prim.Native.Nat.{ℕ, _+_, _*_, _≤_, _<_}
 use lib.ListN.{length, getD, take, drop, replicate}
-use Rattle.words.specs.Bytes.{byteWord}
+use Rattle.words.specs.Bytes.{Small, byteWord}
 use Rattle.format.specs.MapWord.{flagsOf, readingOf}
 use Rattle.layout.specs.Figures.{freshLength, freshFigures}
 use Rattle.layout.specs.Claims.{FreshLayout}
@@ -16,7 +16,7 @@ use Rattle.machine.specs.state.Handle.{laneAt}
 use Rattle.machine.specs.state.Flog.{mapWord}
 use Rattle.machine.specs.calls.Making.{Wanted, wrongSizes, wrongTotal, wrongIdentifier, numberMake, orderMake, makeOf}
 use Rattle.machine.specs.calls.Opening.{figuresIn, layoutIn, openOf}
-use Rattle.machine.specs.words.InBytes.{Small, mapByte}
+use Rattle.machine.specs.words.InBytes.{mapByte}
 use Rattle.machine.specs.words.Records.{Idle}
 use Rattle.layout.specs.Claims.{Length, Sizes}
 use Rattle.machine.specs.words.Valid.{Valid, AnswersMake}

@@ -4,7 +4,7 @@ use mathlib.Core.Logic.{_≢_, _⊎_}
 use mathlib.Core.List.{List, [], _∷_, _++_}
 use Prim.Native.Nat.{ℕ, _+_, _-_, _%_, _≤_, _<_}
 use lib.ListN.{length, getD, drop, replicate}
-use Rattle.words.specs.Bytes.{byteWord}
+use Rattle.words.specs.Bytes.{Small, byteWord}
 use Rattle.format.specs.Sequence.{successor}
 use Rattle.layout.specs.Told.{alone}
 use Rattle.layout.specs.declared.Told.{Told}
@@ -12,7 +12,7 @@ use Rattle.infoblock.specs.Info.{infoBlockOf}
 use Rattle.infoblock.specs.Claims.{Fields}
 use Rattle.machine.specs.declared.lane.Lane.{Lane}
 use Rattle.machine.specs.Rules.{line}
-use Rattle.machine.specs.state.Handle.{Handle, noHandle, laneAt}
+use Rattle.machine.specs.state.Handle.{Handle, laneAt}
 use Rattle.machine.specs.calls.Opening.{
   wrongLength,
   noInfoBlock,
@@ -32,8 +32,8 @@ use Rattle.machine.specs.calls.Opening.{
   cutOpenOf,
   Opening,
 }
-use Rattle.machine.specs.words.Records.{Idle}
-use Rattle.machine.specs.words.InBytes.{Small, mapByte, newerIn, sectorIn, oldIn, newIn, sequenceIn, PendingIn, pendingBelow}
+use Rattle.machine.specs.words.Records.{Idle, ZeroHandle}
+use Rattle.machine.specs.words.InBytes.{mapByte, newerIn, sectorIn, oldIn, newIn, sequenceIn, PendingIn, pendingBelow}
 use Rattle.machine.specs.words.Valid.{Valid, AnswersOpen}
 
 -- one cut opening: its work buffer, and how many stores it may make
@@ -44,7 +44,7 @@ pub record OneCut : Type 0 where
 -- a refused opening leaves the arena, gives a handle of zeroes and counts nothing
 pub record RefusedOpening (a : List ℕ) (o : Opening) : Type 0 where
   pub arena : o .arena ≡ a
-  pub handle : o .handle ≡ noHandle
+  pub handle : ZeroHandle (o .handle)
   pub mended : o .mended ≡ 0
 
 -- what speaks of the layout goes by what the opening is told
@@ -82,7 +82,7 @@ module _ (t : Told) where
     pub number : (cutOpenOf t a work k) .number ≡ (openOf t a work) .number
     pub mended : (cutOpenOf t a work k) .mended ≡ (openOf t a work) .mended
     pub work-buffer : (cutOpenOf t a work k) .work ≡ (openOf t a work) .work
-    pub handle : (cutOpenOf t a work k) .handle ≡ noHandle
+    pub handle : ZeroHandle ((cutOpenOf t a work k) .handle)
     -- told a number that is at least the pending lanes, it leaves the arena that opening leaves
     pub whole : (openOf t a work) .mended ≤ k → (cutOpenOf t a work k) .arena ≡ (openOf t a work) .arena
 

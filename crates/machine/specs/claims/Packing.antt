@@ -6,12 +6,12 @@ use Prim.Native.Nat.{ℕ, _≤_}
 use lib.ListN.{length}
 use Rattle.layout.specs.Told.{alone}
 use Rattle.machine.specs.declared.handle.Handle as packed
-use Rattle.machine.specs.state.Lane.{noLane}
 use Rattle.machine.specs.state.Handle.{laneAt}
-use Rattle.machine.specs.state.Packed.{unpacked, repacked, zeroHandle, packedUp}
+use Rattle.machine.specs.state.Packed.{unpacked, repacked, packedUp}
 use Rattle.machine.specs.calls.Opening.{openOf}
 use Rattle.machine.specs.calls.Order.{Call}
 use Rattle.machine.specs.calls.History.{after}
+use Rattle.machine.specs.words.Records.{Idle, ZeroPacked}
 
 -- what a call leaves of an array with room for the lanes
 pub record PackedAfter (a : List ℕ) (p : packed.Handle) (c : Call) : Type 0 where
@@ -29,7 +29,7 @@ pub record PackingClaim : Type 0 where
   -- the array of an opening stands for its handle; that of a refused one is all zeroes
   pub opened : (a work : List ℕ) → (openOf alone a work) .number ≡ 0
       → unpacked (packedUp ((openOf alone a work) .handle)) ≡ (openOf alone a work) .handle
-  pub refused : (a work : List ℕ) → (openOf alone a work) .number ≢ 0 → packedUp ((openOf alone a work) .handle) ≡ zeroHandle
+  pub refused : (a work : List ℕ) → (openOf alone a work) .number ≢ 0 → ZeroPacked (packedUp ((openOf alone a work) .handle))
   -- records past the lanes are zero
   pub zero : (a work : List ℕ) (l : ℕ) → (openOf alone a work) .handle .figures .lanes ≤ l
-      → laneAt ((packedUp ((openOf alone a work) .handle)) .lanes) l ≡ noLane
+      → Idle 0 0 0 (laneAt ((packedUp ((openOf alone a work) .handle)) .lanes) l)

@@ -2,18 +2,13 @@
 use mathlib.Core.Path.{_≡_}
 use mathlib.Core.Bool.{cond}
 use mathlib.Core.List.{List}
-use Prim.Native.Nat.{ℕ, zero, suc, _+_, _*_, _<_}
+use Prim.Native.Nat.{ℕ, zero, suc, _+_, _*_}
 use lib.Dec.{eqb}
-use lib.ListN.{getD}
 use Rattle.words.specs.Bytes.{byteWord}
 use Rattle.format.specs.Sequence.{newer}
 use Rattle.format.specs.MapWord.{blockOf}
 use Rattle.layout.specs.declared.Figures.{Figures}
 use Rattle.machine.specs.calls.Opening.{figuresIn}
-
--- what every lent slice is: a list of numbers below 256
-abbrev pub Small : List ℕ → Type 0
-Small a = (j : ℕ) → getD a j 0 < 256
 
 -- the byte at which word k of half h of lane l starts: 0 sector, 1 old, 2 new, 3 sequence
 abbrev pub flogByte : Figures → ℕ → ℕ → ℕ → ℕ

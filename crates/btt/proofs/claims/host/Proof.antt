@@ -4,10 +4,13 @@ use Rattle.btt.proofs.Fits.{opened-holds, refused-zeroes}
 use Rattle.btt.proofs.Same.{read-same, start-same, step-same, write-same}
 use Rattle.btt.proofs.Shown.{
   info-shown,
+  info-placed,
   read-left,
   start-left,
   step-left,
   write-left,
+  lane-left,
+  next-left,
   busy-wrong,
   record-only,
   lane-answered,
@@ -21,6 +24,7 @@ use Rattle.btt.proofs.claims.host.Tie as tie
 returns : tie.Need-returns
 returns c = record {
   info-block = info-shown;
+  info-place = info-placed;
   opened = opened-holds;
   open-refused = refused-zeroes;
   read = read-same;
@@ -31,6 +35,8 @@ returns c = record {
   start-refused = start-left;
   step-refused = step-left;
   write-refused = write-left;
+  lane-refused = lane-left;
+  next-refused = next-left;
   busy = busy-wrong;
   kept = record-only;
   lane-order = λ l. refl;

@@ -4,7 +4,7 @@ use mathlib.Core.Path.{sym, ap, _∙_}
 use mathlib.Core.Bool.{not}
 use native.Mathlib.Omega.{arith}
 use borrow.Author.Needs.{needs}
-use Rattle.machine.specs.words.InBytes.{Small}
+use Rattle.words.specs.Bytes.{Small}
 use Rattle.machine.proofs.rules.Rules.{walked, stop, pass, through}
 use Rattle.lanes.proofs.Lanes.{map-fit}
 use Rattle.judge.proofs.Rules.{once-or-not}

@@ -3,7 +3,8 @@ use Rattle.layout.specs.Place.{layoutOf}
 use Rattle.machine.specs.state.Lane.{laneAllowed}
 use borrow.Author.Tests.{lt-ltb, le-ltb, le-leb, lt-leb}
 use borrow.Author.Needs.{needs}
-use Rattle.machine.proofs.calls.Rule16.{lane-last}
+use mathlib.Core.Path.{sym}
+use mathlib.Core.Bool.{and-true}
 use Rattle.machine.proofs.handle.lane_allowed.Statement.{statement}
 use Rattle.machine.proofs.handle.lane_allowed.Tie as tie
 
@@ -85,7 +86,7 @@ add-result : tie.Need-add-result
 add-result c = search needs
 
 returns-8 : tie.Need-returns-8
-unfolding layoutOf
+unfolding laneAllowed layoutOf
 returns-8 c =
     let e7 = c .before .before in
     let e6 = e7 .before .before in
@@ -94,7 +95,15 @@ returns-8 c =
     let e3 = e4 .before .before in
     let e2 = e3 .before .before in
     let e1 = e2 .before .before .before in
-    λ d. lane-last _ _ (e1 .if1 .left) (e2 .if2 .left) (e3 .if3 .left) (e4 .if4 .left) (e5 .if5 .left) (e6 .if6 .left) (e7 .if7 .left)
+    λ d. rw (
+      lt-ltb _ _ (e1 .if1 .left),
+      lt-ltb _ _ (e2 .if2 .left),
+      lt-ltb _ _ (e3 .if3 .left),
+      le-leb _ _ (e4 .if4 .left),
+      le-leb _ _ (e5 .if5 .left),
+      lt-ltb _ _ (e6 .if6 .left),
+      le-leb _ _ (e7 .if7 .left),
+    ) (sym (and-true _))
 
 pub lane-allowed-spec : {M : Type 1} → statement M
 lane-allowed-spec =
