@@ -1,5 +1,5 @@
 -- Where a lane's words and a sector's word stand in an arena that fits, and what the newer half's record tells of a lane.
-use mathlib.Core.Path.{_≡_, ap, ap₂}
+use mathlib.Core.Path.{_≡_, ap, ap₂, _∙_}
 use mathlib.Core.Bool.{false, and-true, and-false}
 use mathlib.Core.List.{List}
 use Prim.Native.Nat.{ℕ, _+_, _*_, _/_, _≤_, _<_}
@@ -49,9 +49,15 @@ pub pair-newer : (d : ℕ) (f : Figures) (a : List ℕ) (l : ℕ)
 unfolding layoutOf newerOfPair newerHalf
 pair-newer d f a l = ap₂ (λ (x : ℕ) (y : ℕ). newer (word a x) (word a y)) (omega arith) (omega arith)
 
-pub half-newerWord : (g : Layout) (a : List ℕ) (l : ℕ) → halfAt a (at g (inFlog l (newerHalf g a l) 0)) ≡ newerFlog g a l
-unfolding halfAt newerFlog
-half-newerWord g a l =
+-- the newer half's words, one by one
+pub newer-words : (g : Layout) (a : List ℕ) (l : ℕ) → newerFlog g a l ≡ record {
+  sector = record { 0 = newerWord g a l 0 };
+  old = record { 0 = newerWord g a l 1 };
+  new = record { 0 = newerWord g a l 2 };
+  sequence = record { 0 = newerWord g a l 3 };
+}
+unfolding newerFlog halfAt
+newer-words g a l =
     let h = newerHalf g a l in
     let e1 : at g (inFlog l h 0) + 1 ≡ at g (inFlog l h 1) = omega arith in
     let e2 : at g (inFlog l h 0) + 2 ≡ at g (inFlog l h 2) = omega arith in
@@ -61,20 +67,16 @@ half-newerWord g a l =
 -- of a lane whose newer half is h
 module _ (d : ℕ) (f : Figures) (a : List ℕ) (l : ℕ) (h : Half) (e : h ≡ newerFlog (layoutOf d f) a l) where
   pub sector-is : h .sector .0 ≡ newerWord (layoutOf d f) a l 0
-  unfolding newerFlog
-  sector-is = ap (λ (x : Half). x .sector .0) e
+  sector-is = ap (λ (x : Half). x .sector .0) (e ∙ newer-words (layoutOf d f) a l)
 
   pub old-is : h .old .0 ≡ newerWord (layoutOf d f) a l 1
-  unfolding newerFlog
-  old-is = ap (λ (x : Half). x .old .0) e
+  old-is = ap (λ (x : Half). x .old .0) (e ∙ newer-words (layoutOf d f) a l)
 
   pub new-is : h .new .0 ≡ newerWord (layoutOf d f) a l 2
-  unfolding newerFlog
-  new-is = ap (λ (x : Half). x .new .0) e
+  new-is = ap (λ (x : Half). x .new .0) (e ∙ newer-words (layoutOf d f) a l)
 
   pub sequence-is : h .sequence .0 ≡ newerWord (layoutOf d f) a l 3
-  unfolding newerFlog
-  sequence-is = ap (λ (x : Half). x .sequence .0) e
+  sequence-is = ap (λ (x : Half). x .sequence .0) (e ∙ newer-words (layoutOf d f) a l)
 
   pub far-sector : f .sectors ≤ h .sector .0 → laneReadable (layoutOf d f) a l ≡ false
   unfolding laneReadable layoutOf

@@ -2,7 +2,8 @@
 use mathlib.Core.Path.{_∙_}
 use native.Mathlib.Omega.{arith}
 use borrow.Author.Needs.{needs}
-use Rattle.lanes.proofs.Lanes.{half-inside, half-newerWord}
+use Rattle.machine.specs.state.Flog.{newerFlog}
+use Rattle.lanes.proofs.Lanes.{half-inside}
 use Rattle.lanes.proofs.newer_flog.Statement.{statement}
 use Rattle.lanes.proofs.newer_flog.Tie as tie
 
@@ -19,7 +20,8 @@ half-at-requires c κs =
     omega (arith, c .flog-place .ensures, half-inside _ _ _ (start .pre .0 .0) _ _ (start .pre .0 .1) n)
 
 returns : tie.Need-returns
-returns c = c .half-at .ensures ∙ rw (c .before .flog-place .ensures, c .before .before .newer-half .ensures) (half-newerWord _ _ _)
+unfolding newerFlog
+returns c = c .half-at .ensures ∙ rw (c .before .flog-place .ensures, c .before .before .newer-half .ensures)
 
 pub newer-flog-spec : {M : Type 1} → statement M
 newer-flog-spec = tie.close (tie.spec newer-half-requires flog-place-requires half-at-requires returns)

@@ -17,7 +17,7 @@ use Rattle.layout.specs.Told.{alone}
 use Rattle.machine.specs.declared.handle.Handle as packed
 use Rattle.machine.specs.declared.lane.Lane.{Lane}
 use Rattle.machine.specs.state.Lane.{noLane}
-use Rattle.machine.specs.state.Handle.{Handle, noHandle, laneAt}
+use Rattle.machine.specs.state.Handle.{Handle, laneAt}
 use Rattle.machine.specs.state.Packed.{unpacked, repacked, packedUp, zeroHandle}
 use Rattle.machine.specs.calls.Opening.{layoutIn, foundLanes, handleFor, openNumber, openOf}
 use Rattle.machine.specs.calls.Writing.{startNumber, startOf, stepNumber, stepOf, stepsOf, writeNumber, writeOf}
@@ -85,7 +85,7 @@ stands p h d n = λ i. record { length = h .length; distance = sym d i; figures 
     whole : take (h .figures .lanes) (h .lanes ++ drop (length (h .lanes)) (p .lanes)) ≡ h .lanes
     whole = take-at (h .lanes) (drop (length (h .lanes)) (p .lanes)) (h .figures .lanes) n
 
-zero-packed : ZeroPacked (packedUp noHandle)
+zero-packed : ZeroPacked zeroHandle
 zero-packed = record { total = refl; figures = zero-figures; records = refl; lanes = λ l. idle-is 0 0 0 _ (zero-at maxLanes l) }
 
 -- ---- the claim
@@ -130,5 +130,6 @@ packing-claim = record {
   calls = λ a p c room. packed-after a p c room;
   opened = accepted;
   refused = refused;
+  none = zero-packed;
   zero = zero-past;
 }

@@ -33,4 +33,4 @@ zero-figures =
     }
 
 pub zero-handle : ZeroHandle noHandle
-zero-handle = record { total = refl; figures = zero-figures; lanes = refl }
+zero-handle = record { total = refl; distance = refl; figures = zero-figures; lanes = refl }

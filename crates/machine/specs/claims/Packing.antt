@@ -7,7 +7,7 @@ use lib.ListN.{length}
 use Rattle.layout.specs.Told.{alone}
 use Rattle.machine.specs.declared.handle.Handle as packed
 use Rattle.machine.specs.state.Handle.{laneAt}
-use Rattle.machine.specs.state.Packed.{unpacked, repacked, packedUp}
+use Rattle.machine.specs.state.Packed.{unpacked, repacked, packedUp, zeroHandle}
 use Rattle.machine.specs.calls.Opening.{openOf}
 use Rattle.machine.specs.calls.Order.{Call}
 use Rattle.machine.specs.calls.History.{after}
@@ -30,6 +30,7 @@ pub record PackingClaim : Type 0 where
   pub opened : (a work : List ℕ) → (openOf alone a work) .number ≡ 0
       → unpacked (packedUp ((openOf alone a work) .handle)) ≡ (openOf alone a work) .handle
   pub refused : (a work : List ℕ) → (openOf alone a work) .number ≢ 0 → ZeroPacked (packedUp ((openOf alone a work) .handle))
+  pub none : ZeroPacked zeroHandle
   -- records past the lanes are zero
   pub zero : (a work : List ℕ) (l : ℕ) → (openOf alone a work) .handle .figures .lanes ≤ l
       → Idle 0 0 0 (laneAt ((packedUp ((openOf alone a work) .handle)) .lanes) l)

@@ -5,6 +5,7 @@ use Prim.Native.Nat.{ℕ}
 use lib.Dec.{eqb}
 use Rattle.words.specs.Word.{word}
 use Rattle.format.specs.Sequence.{newer}
+use Rattle.format.specs.Flog.{halfAt}
 use Rattle.format.specs.MapWord.{blockOf}
 use Rattle.layout.specs.Place.{Layout, inMap, inFlog, at}
 use Rattle.format.specs.declared.flog.Half.{Half}
@@ -38,12 +39,7 @@ pending g a l = eqb (mapBlock g a (newerWord g a l 0)) (freeOf g a l)
 
 -- the newer half as a record
 unfoldable pub newerFlog : Layout → List ℕ → ℕ → Half
-newerFlog g a l = record {
-  sector = record { 0 = newerWord g a l 0 };
-  old = record { 0 = newerWord g a l 1 };
-  new = record { 0 = newerWord g a l 2 };
-  sequence = record { 0 = newerWord g a l 3 };
-}
+newerFlog g a l = halfAt a (at g (inFlog l (newerHalf g a l) 0))
 
 -- a lane's spare block, which the map as found does not have: new of a pending lane, else old
 unfoldable pub spareOf : Layout → List ℕ → ℕ → ℕ

@@ -52,6 +52,7 @@ pub record ZeroFigures (f : Figures) : Type 0 where
 -- the handle that a refused opening gives
 pub record ZeroHandle (h : Handle) : Type 0 where
   pub total : h .length ≡ 0
+  pub distance : h .distance ≡ 0
   pub figures : ZeroFigures (h .figures)
   pub lanes : h .lanes ≡ []
 

@@ -4,8 +4,7 @@ use Prim.Native.Nat.{_<_}
 use native.Mathlib.Omega.{arith}
 use borrow.Author.Needs.{needs}
 use Rattle.layout.specs.Place.{layoutOf}
-use Rattle.machine.specs.state.Flog.{newerFlog}
-use Rattle.lanes.proofs.Lanes.{map-fit, sector-is, old-is, new-is, reads, has-half}
+use Rattle.lanes.proofs.Lanes.{map-fit, sector-is, old-is, new-is, reads, has-half, newer-words}
 use Rattle.mend.proofs.mend_lane.Statement.{statement}
 use Rattle.mend.proofs.mend_lane.Tie as tie
 
@@ -38,7 +37,6 @@ same-length : tie.Need-same-length
 same-length c = search needs
 
 returns : tie.Need-returns
-unfolding newerFlog
 returns c =
     let at-put-word = c .before .before in
     let at-mapped-word = at-put-word .before in
@@ -46,7 +44,7 @@ returns c =
     let at-newer-flog = at-map-place .before in
     let d = at-newer-flog .before .before .before .args .d in
     at-put-word .put-word .ensures
-    ∙ rw (at-map-place .map-place .ensures d, at-mapped-word .mapped-word .ensures, at-newer-flog .newer-flog .ensures)
+    ∙ rw (at-map-place .map-place .ensures d, at-mapped-word .mapped-word .ensures, at-newer-flog .newer-flog .ensures, newer-words _ _ _)
 
 pub mend-lane-spec : {M : Type 1} → statement M
 mend-lane-spec =
