@@ -1,5 +1,5 @@
 -- What opening finds and mends, in bytes. The mended words and the other bytes are followed through the stores of the lanes one by one.
-use mathlib.Core.Path.{_≡_, refl, sym, ap, _∙_}
+use mathlib.Core.Path.{_≡_, refl, sym, ap, subst, _∙_}
 use mathlib.Core.Logic.{_≢_, _⊎_, inl, inr}
 use mathlib.Core.List.{List}
 use mathlib.Core.Bool.{true}
@@ -10,6 +10,9 @@ use borrow.Author.Tests.{eqb-true}
 use Rattle.words.specs.Bytes.{Small, byteWord}
 use Rattle.words.proofs.Laws.{getD-putWord-other}
 use Rattle.format.specs.Sequence.{successor}
+use Rattle.format.specs.Flog.{halfAt}
+use Rattle.format.specs.Claims.{HalfFrom}
+use Rattle.format.proofs.InNumbers.{flog-claim}
 use Rattle.format.specs.MapWord.{blockOf, mappedTo}
 use Rattle.layout.specs.Place.{Layout, layoutOf, at, inMap, inFlog}
 use Rattle.words.proofs.Bytes.{word-at}
@@ -19,7 +22,7 @@ use Rattle.infoblock.proofs.InBytes.{fields-claim}
 use Rattle.machine.specs.state.Lane.{idleLane}
 use Rattle.machine.specs.state.Handle.{laneAt, ToldOk}
 use Rattle.machine.specs.state.Stores.{putAll}
-use Rattle.machine.specs.state.Flog.{mapWord, flogWord, newerHalf, newerWord, pending}
+use Rattle.machine.specs.state.Flog.{mapWord, flogWord, newerHalf, newerWord, newerFlog, pending}
 use Rattle.machine.specs.calls.Opening.{figuresIn, layoutIn, mends, pendingLanes, mended, handleFor, openOf, cutOpenOf}
 use Rattle.machine.specs.words.InBytes.{flogByte, mapByte, newerIn, sectorIn, oldIn, newIn, sequenceIn, PendingIn, pendingBelow}
 use Rattle.machine.specs.claims.Opening.{LaneAsFound, HandleAsFound, MendedFor, Mended, MendedUpTo}
@@ -77,6 +80,14 @@ module _ (τ : Told) (told : ToldOk τ) where
     sequence-bytes : (l : ℕ) → newerWord (layoutIn τ a) a l 3 ≡ sequenceIn a l
     unfolding sequenceIn
     sequence-bytes l = newer-word-bytes l 3
+
+    -- the newer half as a record
+    half-bytes : (l : ℕ) → HalfFrom a (flogByte (figuresIn a) l (newerIn a l) 0) (newerFlog (layoutIn τ a) a l)
+    unfolding newerFlog
+    half-bytes l =
+        let p = at (layoutIn τ a) (inFlog l (newerHalf (layoutIn τ a) a l) 0) in
+        let e = flog-byte (τ .distance) (figuresIn a) (length a) (described-figures τ told a d) (eqb-true _ _ told) l (newerHalf (layoutIn τ a) a l) 0 in
+        subst (λ (o : ℕ). HalfFrom a o (halfAt a p)) (e ∙ ap (λ (h : ℕ). flogByte (figuresIn a) l h 0) (newer-bytes l)) (flog-claim .half a p)
 
     -- pending in bytes and by word numbers
     block-bytes : (l : ℕ) → blockOf (sectorIn a l) (byteWord a (mapByte (figuresIn a) (sectorIn a l)))
@@ -154,6 +165,10 @@ module _ (τ : Told) (told : ToldOk τ) where
     pub handle-as-found : HandleAsFound a ((openOf τ a work) .handle)
     unfolding openOf
     handle-as-found = let o = open-zero τ told a (length work) e .0 in rw e (handle-found a (o .info) (opens-consistent τ told a o small))
+
+    pub newer-half : (l : ℕ) → HalfFrom a (flogByte (figuresIn a) l (newerIn a l) 0) (newerFlog (layoutIn τ a) a l)
+    unfolding openOf
+    newer-half = half-bytes a (open-zero τ told a (length work) e .0 .info)
 
     pub opening-mends : Mended a ((openOf τ a work) .arena)
     unfolding openOf

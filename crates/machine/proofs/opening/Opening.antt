@@ -48,7 +48,7 @@ use Rattle.machine.proofs.opening.Opens.{some-number-open, open-zero, z
 use Rattle.machine.proofs.opening.Kept.{kept-info, kept-opens, kept-mended, kept-handle}
 use Rattle.machine.proofs.opening.Answers.{opening-answers}
 use Rattle.machine.proofs.opening.Cuts.{cuts-no-trace}
-use Rattle.machine.proofs.opening.InBytes.{below-bytes, handle-as-found, opening-mends, cut-mends}
+use Rattle.machine.proofs.opening.InBytes.{below-bytes, handle-as-found, newer-half, opening-mends, cut-mends}
 use Rattle.layout.specs.declared.Told.{Told}
 use Rattle.machine.specs.state.Handle.{ToldOk}
 
@@ -171,6 +171,7 @@ module _ (τ : Told) (told : ToldOk τ) where
     count = count-pending;
     again = λ a work again small e room. opened-again a work again small e room;
     handle = handle-as-found τ told;
+    newer-half = newer-half τ told;
     mends = opening-mends τ told;
     cut-mends = cut-mends τ told;
   }

@@ -6,12 +6,14 @@ use Prim.Native.Nat.{ℕ, _+_, _-_, _%_, _≤_, _<_}
 use lib.ListN.{length, getD, drop, replicate}
 use Rattle.words.specs.Bytes.{Small, byteWord}
 use Rattle.format.specs.Sequence.{successor}
+use Rattle.format.specs.Claims.{HalfFrom}
 use Rattle.layout.specs.Told.{alone}
 use Rattle.layout.specs.declared.Told.{Told}
 use Rattle.infoblock.specs.Info.{infoBlockOf}
 use Rattle.infoblock.specs.Claims.{Fields}
 use Rattle.machine.specs.declared.lane.Lane.{Lane}
 use Rattle.machine.specs.Rules.{line}
+use Rattle.machine.specs.state.Flog.{newerFlog}
 use Rattle.machine.specs.state.Handle.{Handle, laneAt}
 use Rattle.machine.specs.calls.Opening.{
   wrongLength,
@@ -33,7 +35,7 @@ use Rattle.machine.specs.calls.Opening.{
   Opening,
 }
 use Rattle.machine.specs.words.Records.{Idle, ZeroHandle}
-use Rattle.machine.specs.words.InBytes.{mapByte, newerIn, sectorIn, oldIn, newIn, sequenceIn, PendingIn, pendingBelow}
+use Rattle.machine.specs.words.InBytes.{flogByte, mapByte, newerIn, sectorIn, oldIn, newIn, sequenceIn, PendingIn, pendingBelow}
 use Rattle.machine.specs.words.Valid.{Valid, AnswersOpen}
 
 -- one cut opening: its work buffer, and how many stores it may make
@@ -149,6 +151,9 @@ pub record OpeningClaimFor (t : Told) : Type 0 where
   pub count : (a work : List ℕ) → CountIsPending t a work
   pub again : (a work again : List ℕ) → Small a → (openOf t a work) .number ≡ 0 → (layoutIn t a) .I ≤ length again → OpenedAgain t a work again
   pub handle : (a work : List ℕ) → Small a → (openOf t a work) .number ≡ 0 → HandleAsFound a ((openOf t a work) .handle)
+  -- a lane's newer half is the four words there
+  pub newer-half : (a work : List ℕ) → Small a → (openOf t a work) .number ≡ 0 → (l : ℕ)
+      → HalfFrom a (flogByte (figuresIn a) l (newerIn a l) 0) (newerFlog (layoutIn t a) a l)
   pub mends : (a work : List ℕ) → Small a → (openOf t a work) .number ≡ 0 → Mended a ((openOf t a work) .arena)
   pub cut-mends : (a work : List ℕ) (k : ℕ) → Small a → (cutOpenOf t a work k) .number ≡ 0 → MendedUpTo a k ((cutOpenOf t a work k) .arena)
 
