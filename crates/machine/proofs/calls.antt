@@ -2,6 +2,7 @@ pub mod Accepted
 pub mod DemandOne
 pub mod Rule16
 pub mod Running
+pub mod Whole
 pub mod Tables
 pub mod Packed
 pub mod Packing

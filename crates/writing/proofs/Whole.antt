@@ -1,129 +1,28 @@
--- The whole write: k steps from its start make the first k stores and leave the record with k made, and the last step finishes it.
--- Each step is accepted, since a record in range with another count is in range.
-use mathlib.Core.Path.{_≡_, refl, sym, ap, _∙_}
-use mathlib.Core.Logic.{inr}
-use mathlib.Core.Bool.{true, false, not}
+-- The whole write, refused and not: its stores are those of the start's steps.
+use mathlib.Core.Path.{_≡_, refl, sym, _∙_}
+use mathlib.Core.Bool.{true, false}
 use mathlib.Core.List.{List}
-use Prim.Native.Nat.{ℕ, zero, suc, _+_, _<_}
+use Prim.Native.Nat.{ℕ, _<_}
 use native.Mathlib.Omega.{arith}
-use native.Mathlib.Decide.{ℕ-discrete}
-use native.Mathlib.Numerals.{add-one}
 use lib.Dec.{eqb}
-use lib.ListN.{length, set}
-use lib.Seq.{set-set, length-take-le}
-use borrow.Author.Tests.{eq-eqb, eqb-true, lt-leb}
-use Rattle.format.proofs.MapWord.{block-in}
+use lib.ListN.{length}
+use lib.Seq.{length-take-le}
+use borrow.Author.Tests.{eqb-true}
 use Rattle.layout.specs.Figures.{maxLanes}
-use Rattle.layout.specs.Place.{Layout, layoutOf}
-use Rattle.machine.specs.state.Flog.{mapWord, mapBlock}
-use Rattle.machine.specs.state.Handle.{Handle, laneAt, laidOut, handleAllowed, withLane}
-use Rattle.machine.specs.state.Lane.{isBusy, startedLane, laneAfter, finishedLane, writeStores}
+use Rattle.machine.specs.state.Flog.{mapBlock}
+use Rattle.machine.specs.state.Handle.{Handle, laneAt, laidOut, withLane}
+use Rattle.machine.specs.state.Lane.{startedLane, finishedLane, writeStores}
 use Rattle.machine.specs.state.Packed.{unpacked, repacked}
-use Rattle.machine.specs.words.Running.{LaneOk, HandleOk}
-use Rattle.machine.specs.state.Stores.{putAll}
-use Rattle.machine.specs.calls.Order.{step}
-use Rattle.machine.specs.calls.Writing.{
-  Outcome,
-  planOf,
-  firstStores,
-  laneStored,
-  startOf,
-  stepNumber,
-  stepOf,
-  stepsOf,
-  writeNumber,
-  writeOf,
-}
+use Rattle.machine.specs.calls.Writing.{startOf, writeNumber, writeOf}
 use Rattle.machine.specs.declared.lane.Lane.{Lane}
 use Rattle.machine.specs.declared.handle.Handle as packed
-use Rattle.machine.proofs.rules.Rules.{pass, through}
-use Rattle.machine.proofs.rules.Running.{call-walk}
 use Rattle.machine.proofs.calls.Accepted.{StartFound, start-found, write-found}
 use Rattle.machine.proofs.calls.Packed.{repacked-self}
-use Rattle.machine.proofs.invariant.Inv.{lane-same, lane-other}
-use Rattle.machine.proofs.calls.Running.{handle-ok, ok-handle, handle-fit}
-use Rattle.machine.proofs.invariant.Steps.{stored-more, stored-last}
-use Rattle.machine.proofs.stores.Stores.{putAll-length}
+use Rattle.machine.proofs.calls.Whole.{steps-all, begun-ok}
+use Rattle.machine.proofs.calls.Running.{handle-fit}
 use Rattle.stores.specs.Record.{withStores, RecordFit}
-use Rattle.stores.proofs.Plans.{first-more}
 use Rattle.writing.specs.Gave.{PackedOutcome, packedOutcome}
 use Rattle.writing.proofs.Rules.{record-fit}
-
--- rule 16 lets a handle pass in which a record is replaced by one in range
-handle-with : (h : Handle) (n l : ℕ) (r : Lane) → handleAllowed h n ≡ true → l < length (h .lanes) → LaneOk (laidOut h) r
-    → handleAllowed (withLane h l r) n ≡ true
-handle-with h n l r e u k =
-    ok-handle (withLane h l r) n (record {
-      size = o .size;
-      match = o .match;
-      distance = o .distance;
-      figures = o .figures;
-      lanes = λ j v. lane j v (ℕ-discrete j l);
-    })
-  where
-    o : HandleOk h n
-    o = handle-ok h n e
-
-    lane : (j : ℕ) → j < h .figures .lanes → Dec (j ≡ l) → LaneOk (laidOut h) (laneAt (set (h .lanes) l r) j)
-    lane j v (yes d) = rw (d, lane-same (h .lanes) l r u) k
-    lane j v (no d) = rw (lane-other (h .lanes) l r j d) (o .lanes j v)
-
--- the write of a busy record in range, from its first store
-module _ (a : List ℕ) (h : Handle) (l : ℕ) (r : Lane) (buffer : List ℕ) (allowed : handleAllowed h (length a) ≡ true)
-    (lane : l < h .figures .lanes) (held : l < length (h .lanes)) (busy : isBusy r ≡ true) (range : LaneOk (laidOut h) r)
-    (size : length buffer ≡ h .figures .size) where
-  abbrev g : Layout
-  g = laidOut h
-
-  -- the arena with the first k stores
-  abbrev made : ℕ → List ℕ
-  made k = withStores (h .distance) (h .figures) l r buffer k a
-
-  after-ok : (k : ℕ) → k < writeStores g → LaneOk g (laneAfter r k)
-  after-ok k u = record {
-    busy = range .busy;
-    block = range .block;
-    old = range .old;
-    half = range .half;
-    sequence-least = range .sequence-least;
-    sequence-most = range .sequence-most;
-    sector = range .sector;
-    made = u;
-  }
-
-  accepted : (k : ℕ) → k < writeStores g → 0 ≡ stepNumber (made k) (withLane h l (laneAfter r k)) l buffer
-  accepted k u =
-      let n = putAll-length g (firstStores g (planOf l r) buffer k) a in
-      let v : handleAllowed (withLane h l (laneAfter r k)) (length (made k)) ≡ true =
-      rw n (handle-with h (length a) l (laneAfter r k) allowed held (after-ok k u)) in
-      let b = ap (λ (x : Lane). not (isBusy x)) (lane-same (h .lanes) l (laneAfter r k) held) ∙ ap not busy in
-      call-walk (made k) (withLane h l (laneAfter r k)) (step l buffer)
-      (pass (ap not v) (pass (lt-leb _ _ lane) (pass b (pass (ap not (eq-eqb _ _ size)) through))))
-
-  one : (k : ℕ) → k < writeStores g
-      → stepOf (made k) (withLane h l (laneAfter r k)) l buffer
-      ≡ record { number = 0; arena = made (suc k); handle = withLane h l (laneStored g (laneAfter r k)) }
-  unfolding stepOf
-  one k u =
-      rw (← accepted k u, lane-same (h .lanes) l (laneAfter r k) held, set-set, first-more)
-
-  steps-some : (k : ℕ) → k < writeStores g
-      → stepsOf k a (withLane h l (laneAfter r 0)) l buffer ≡ record { number = 0; arena = made k; handle = withLane h l (laneAfter r k) }
-  unfolding stepsOf firstStores putAll
-  steps-some zero u = refl
-  steps-some (suc k) u =
-      ap (λ (o : Outcome). stepOf (o .arena) (o .handle) l buffer) (steps-some k (omega arith)) ∙ one k (omega arith)
-      ∙ rw (stored-more g (laneAfter r k) (λ e. omega arith), add-one)
-
-  steps-all :
-      stepsOf (writeStores g) a (withLane h l (laneAfter r 0)) l buffer
-      ≡ record { number = 0; arena = made (writeStores g); handle = withLane h l (finishedLane r) }
-  unfolding stepsOf
-  steps-all = let e : writeStores g ≡ suc (g .W + 4) = omega arith in
-      rw e
-      (ap (λ (o : Outcome). stepOf (o .arena) (o .handle) l buffer) (steps-some (g .W + 4) (omega arith))
-      ∙ one (g .W + 4) (omega arith)
-      ∙ rw (stored-last g (laneAfter r (g .W + 4)) (omega arith)))
 
 -- a whole write, refused and not
 module _ (a : List ℕ) (p : packed.Handle) (l s : ℕ) (buffer : List ℕ) (m : ℕ) (e : m ≡ writeNumber a (unpacked p) l s buffer) where
@@ -150,28 +49,11 @@ module _ (a : List ℕ) (p : packed.Handle) (l s : ℕ) (buffer : List ℕ) (m :
     pub write-found-size : length buffer ≡ p .figures .size
     write-found-size = write-found a h l s buffer done .size
 
-    begun-ok : LaneOk (laidOut h) begun
-    unfolding layoutOf
-    begun-ok =
-        let found = write-found-start in
-        let o = handle-ok h (length a) (found .handle) .lanes l (found .lane) in
-        let ok = handle-fit h (length a) (found .handle) .ok in
-        record {
-          busy = inr refl;
-          block = o .block;
-          old = block-in (h .figures .blocks) s (mapWord (laidOut h) a s) (omega (arith, ok .blocks, found .sector)) (found .word);
-          half = o .half;
-          sequence-least = o .sequence-least;
-          sequence-most = o .sequence-most;
-          sector = found .sector;
-          made = omega arith;
-        }
-
     -- what its stores ask
     pub begun-fit : RecordFit (p .figures) l begun 0
     begun-fit =
         let found = write-found-start in
-        record-fit h (length a) (found .handle) l 0 begun (found .lane) begun-ok (omega arith)
+        record-fit h (length a) (found .handle) l 0 begun (found .lane) (begun-ok a h l s found) (omega arith)
 
     pub write-done : length (p .lanes) ≡ maxLanes
         → _≡_ {A = PackedOutcome}
@@ -190,5 +72,5 @@ module _ (a : List ℕ) (p : packed.Handle) (l s : ℕ) (buffer : List ℕ) (m :
           ← e,
           t,
           write-found a h l s buffer done .start,
-          steps-all a h l begun buffer (found .handle) (found .lane) held refl begun-ok write-found-size,
+          steps-all a h l begun buffer (found .handle) (found .lane) held refl (begun-ok a h l s found) write-found-size,
         )

@@ -1,6 +1,24 @@
 /* The calls with a handle, from C: every answer of their rows and the order among them, and what each must leave as it was. */
 #include "lent.h"
 
+/* The calls again with each of these sector buffers, none of which is a sector long. */
+static void with_wrong_buffers(void (*calls)(void))
+{
+    static const size_t rooms[] = {0, 511, 513, 4096};
+
+    for (size_t i = 0; i < COUNT(rooms); i++) {
+        lend(BUFFER, rooms[i]);
+        calls();
+    }
+}
+
+static void wrong_reads(void)
+{
+    CALL(10, NOTHING, read_sector(3));
+    CALL(10, NOTHING, read_sector(5));
+    CALL(9, NOTHING, read_sector(60));
+}
+
 static void test_read(void)
 {
     static const struct {
@@ -9,7 +27,6 @@ static void test_read(void)
         {0x00000000, 0}, {0x00000040, 0}, {0x3FFFFFFF, 0}, {0x40000009, 0}, {0x4000003F, 0}, {0x80000005, 15}, {0x8000003F, 15},
         {0x40000040, 7}, {0x80000040, 7}, {0xC0000040, 7}, {0xFFFFFFFF, 7}, {0x80000041, 7},
     };
-    static const size_t rooms[] = {0, 511, 513, 4096};
 
     fresh_case();
     pattern(arena + DATA + 9 * SIZE, SIZE, 90);
@@ -24,12 +41,7 @@ static void test_read(void)
     }
     CALL(9, NOTHING, read_sector(60));
     CALL(9, NOTHING, read_sector(0xFFFFFFFF));
-    for (size_t i = 0; i < COUNT(rooms); i++) {
-        lend(BUFFER, rooms[i]);
-        CALL(10, NOTHING, read_sector(3));
-        CALL(10, NOTHING, read_sector(5));
-        CALL(9, NOTHING, read_sector(60));
-    }
+    with_wrong_buffers(wrong_reads);
 }
 
 /* Lane 0 is put in flight with sector 7, whose map word is then bad, as is that of sector 5. */
@@ -64,43 +76,43 @@ static void test_start(void)
     CALL(13, NOTHING, start(3, 0));
 }
 
+static void wrong_steps(void)
+{
+    CALL(10, NOTHING, step(0));
+    CALL(14, NOTHING, step(3));
+    CALL(11, NOTHING, step(0xFFFFFFFF));
+}
+
 static void test_step(void)
 {
-    static const size_t rooms[] = {0, 511, 513, 4096};
-
     one_in_flight();
     CALL(14, NOTHING, step(1));
     CALL(11, NOTHING, step(4));
     CALL(0, STEPPED, step(0));
-    for (size_t i = 0; i < COUNT(rooms); i++) {
-        lend(BUFFER, rooms[i]);
-        CALL(10, NOTHING, step(0));
-        CALL(14, NOTHING, step(3));
-        CALL(11, NOTHING, step(0xFFFFFFFF));
-    }
+    with_wrong_buffers(wrong_steps);
     handle->lane[0].made = LAST;
     CALL(10, NOTHING, step(0));
 }
 
+static void wrong_writes(void)
+{
+    CALL(11, NOTHING, write_sector(0xFFFFFFFF, 60));
+    CALL(12, NOTHING, write_sector(0, 60));
+    CALL(9, NOTHING, write_sector(1, 60));
+    CALL(10, NOTHING, write_sector(1, 7));
+    CALL(10, NOTHING, write_sector(1, 5));
+    CALL(10, NOTHING, write_sector(1, 3));
+}
+
 static void test_write(void)
 {
-    static const size_t rooms[] = {0, 511, 513, 4096};
-
     one_in_flight();
     CALL(11, NOTHING, write_sector(4, 3));
     CALL(12, NOTHING, write_sector(0, 3));
     CALL(9, NOTHING, write_sector(1, 60));
     CALL(13, NOTHING, write_sector(1, 7));
     CALL(7, NOTHING, write_sector(1, 5));
-    for (size_t i = 0; i < COUNT(rooms); i++) {
-        lend(BUFFER, rooms[i]);
-        CALL(11, NOTHING, write_sector(0xFFFFFFFF, 60));
-        CALL(12, NOTHING, write_sector(0, 60));
-        CALL(9, NOTHING, write_sector(1, 60));
-        CALL(10, NOTHING, write_sector(1, 7));
-        CALL(10, NOTHING, write_sector(1, 5));
-        CALL(10, NOTHING, write_sector(1, 3));
-    }
+    with_wrong_buffers(wrong_writes);
     lend(BUFFER, SIZE);
     CALL(0, STEPPED, write_sector(1, 3));
 }

@@ -35,6 +35,7 @@ use Rattle.machine.proofs.opening.Described.{told-distance, allowed-are
 use Rattle.machine.proofs.stores.Kinds.{PlanOk, store-fits}
 use Rattle.machine.proofs.invariant.Steps.{stored-more, stored-last}
 use Rattle.machine.proofs.calls.Running.{handle-ok}
+use Rattle.machine.proofs.calls.Whole.{steps-accepted, begun-ok}
 use Rattle.machine.proofs.calls.Accepted.{read-found, start-found, step-found, write-found}
 use Rattle.machine.specs.words.Records.{OneMore}
 use Rattle.machine.proofs.calls.Records.{idle-fields, started-fields, stored-fields}
@@ -211,13 +212,25 @@ module _ (a : List ℕ) (h : Handle) where
   steps-are zero b k l buffer = refl
   steps-are (suc n) b k l buffer = ap (λ (o : Outcome). stepOf (o .arena) (o .handle) l buffer) (steps-are n b k l buffer)
 
+  start-handle : (l s : ℕ) → (startOf a h l s) .number ≡ 0
+      → (startOf a h l s) .handle ≡ withLane h l (startedLane (laneAt (h .lanes) l) s (mapBlock (laidOut h) a s))
+  unfolding startOf
+  start-handle l s e = rw e
+
   pub write-table : (l s : ℕ) (buffer : List ℕ) → (writeOf a h l s buffer) .number ≡ 0 → WriteTable a h l s buffer (writeOf a h l s buffer)
   unfolding writeOf
   write-table l s buffer e =
       let first : (startOf a h l s) .number ≡ 0 = unfold startOf in (write-found a h l s buffer e .start) in
       let same = steps-are (writeStores (laidOut h)) a ((startOf a h l s) .handle) l buffer in
+      let found = start-found a h l s (write-found a h l s buffer e .start) in
+      let begun = startedLane (laneAt (h .lanes) l) s (mapBlock (laidOut h) a s) in
+      let held = listed h a (handle-ok h (length a) (found .handle)) l (found .lane) in
       record {
         start = first;
+        steps = λ n u. ap (λ (o : Outcome). o .number) (sym (steps-are (suc n) a ((startOf a h l s) .handle) l buffer))
+            ∙ rw (start-handle l s first)
+            (steps-accepted a h l begun buffer (found .handle) (found .lane) held refl (begun-ok a h l s found) (write-found a h l s buffer e .size)
+            n (unfold layoutOf in u));
         arena = rw e (unfold layoutOf startOf in (ap (λ (o : Outcome). o .arena) same));
         handle = rw e (unfold layoutOf startOf in (ap (λ (o : Outcome). o .handle) same));
       }

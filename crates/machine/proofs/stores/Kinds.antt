@@ -1,6 +1,6 @@
 -- The stores of a write by kind: a data word, a word of the next half of the lane's log, or the map word. Each is at a place of the
 -- arena and below 2^32 where the plan is in range.
-use mathlib.Core.Path.{_≡_, ap}
+use mathlib.Core.Path.{_≡_, sym, ap}
 use mathlib.Core.List.{List}
 use Prim.Native.Nat.{ℕ, zero, suc, _+_, _-_, _<_}
 use native.Mathlib.Omega.{arith}
@@ -13,8 +13,9 @@ use Rattle.format.specs.MapWord.{mappedTo}
 use Rattle.layout.specs.Place.{Layout, LayoutOk, inData, inMap, inFlog, InRange}
 use Rattle.machine.specs.declared.lane.Lane.{Lane}
 use Rattle.machine.specs.state.Handle.{laneAt}
-use Rattle.machine.specs.calls.Writing.{Plan, planOf, flogStore, storeAt}
-use Rattle.machine.proofs.stores.Stores.{Fits}
+use Rattle.machine.specs.state.Stores.{stored, putAll}
+use Rattle.machine.specs.calls.Writing.{Plan, planOf, flogStore, storeAt, firstStores}
+use Rattle.machine.proofs.stores.Stores.{Fits, putAll-one}
 use Rattle.machine.proofs.invariant.Inv.{Inv}
 
 -- ---- a write's stores, by number
@@ -95,3 +96,9 @@ module _ (g : Layout) (ok : LayoutOk g) (p : Plan) (o : PlanOk g p) where
       go (isData u e) = rw e (word-lt bytes k small)
       go (isLog j u _ e) = rw e (flog-small j u)
       go (isMap _ e) = rw e (omega (arith, ok .small, o .new-in))
+
+-- one more store of a write
+pub first-more : (g : Layout) (p : Plan) (bytes a : List ℕ) (k : ℕ)
+    → stored g (storeAt g p bytes k) (putAll g (firstStores g p bytes k) a) ≡ putAll g (firstStores g p bytes (suc k)) a
+unfolding firstStores
+first-more g p bytes a k = sym (putAll-one g (firstStores g p bytes k) (storeAt g p bytes k) a)

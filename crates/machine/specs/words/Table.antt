@@ -86,6 +86,7 @@ afterSteps (suc n) a h l buffer = let o = afterSteps n a h l buffer in stepOf (o
 -- an accepted whole write leaves the arena and the handle that an accepted start and then S/4 + 5 accepted steps leave
 pub record WriteTable (a : List ℕ) (h : Handle) (l s : ℕ) (buffer : List ℕ) (o : Outcome) : Type 0 where
   pub start : (startOf a h l s) .number ≡ 0
+  pub steps : (n : ℕ) → n < h .figures .size / 4 + 5 → (afterSteps (suc n) a ((startOf a h l s) .handle) l buffer) .number ≡ 0
   pub arena : o .arena ≡ (afterSteps (h .figures .size / 4 + 5) a ((startOf a h l s) .handle) l buffer) .arena
   pub handle : o .handle ≡ (afterSteps (h .figures .size / 4 + 5) a ((startOf a h l s) .handle) l buffer) .handle
 
