@@ -15,7 +15,6 @@ use Rattle.words.proofs.Runs.{getD-putWords-out}
 use Rattle.words.specs.Bytes.{Small, byteWord}
 use Rattle.reading.proofs.Copies.{copied}
 use Rattle.format.proofs.Tests.{by-bool}
-use Rattle.format.proofs.Below.{below-take, below-drop}
 use Rattle.infoblock.specs.Info.{sound, infoBlockOf, countsOf}
 use Rattle.infoblock.specs.Claims.{Sound}
 use Rattle.infoblock.proofs.InBytes.{sound-claim}
@@ -24,7 +23,6 @@ use Rattle.judge.proofs.Parts.{main-part, copy-part, no-part}
 use Rattle.layout.specs.Figures.{lengthAllowed}
 use Rattle.layout.specs.Claims.{Length}
 use Rattle.layout.specs.Place.{Layout, at}
-use Rattle.layout.proofs.InBytes.{allowed-claim}
 use Rattle.machine.specs.Rules.{FirstOf}
 use Rattle.machine.specs.state.Handle.{Handle, laneAt, laidOut, handleAllowed}
 use Rattle.machine.specs.calls.Order.{read, start, step, write, number}
@@ -32,6 +30,7 @@ use Rattle.machine.specs.calls.Reading.{readOf}
 use Rattle.machine.specs.calls.Writing.{Outcome, Plan, planOf, storeAt, stepNumber, startOf, stepOf, writeOf}
 use Rattle.machine.specs.words.Running.{Holds}
 use Rattle.machine.specs.declared.lane.Lane.{Lane}
+use Rattle.machine.proofs.opening.Reflect.{length-ok, ok-length, main-small, copy-small}
 use Rattle.machine.proofs.rules.Rules.{stop}
 use Rattle.machine.proofs.rules.Running.{call-walk}
 use Rattle.machine.proofs.calls.Rule16.{lane-taken}
@@ -76,8 +75,8 @@ module _ (a : List ℕ) (small : Small a) where
   unfolding bttInfoBlockOf infoPartOf
   info-placed =
       record {
-        first = λ k s. rw (allowed k, sound-claim .main main copy s .0);
-        copy = λ k n s. rw (allowed k, sound-claim .copy main copy main-small n s .0);
+        first = λ k s. rw (ok-length (length a) k, sound-claim .main main copy s .0);
+        copy = λ k n s. rw (ok-length (length a) k, sound-claim .copy main copy (main-small a small) n s .0);
         neither = neither;
         no-arena = λ n. rw (forbidden n);
       }
@@ -88,21 +87,12 @@ module _ (a : List ℕ) (small : Small a) where
       copy : List ℕ
       copy = drop (length a - 4096) a
 
-      main-small : Small main
-      main-small = below-take 256 4096 a (omega arith) small
-
-      copy-small : Small copy
-      copy-small = below-drop 256 (length a - 4096) a small
-
-      allowed : Length (length a) → lengthAllowed (length a) ≡ true
-      allowed = allowed-claim .length-back (length a)
-
       forbidden : (Length (length a) → ⊥) → lengthAllowed (length a) ≡ false
-      forbidden n = by-bool (lengthAllowed (length a)) _ (λ e. absurd (n (allowed-claim .length (length a) e))) (λ e. e)
+      forbidden n = by-bool (lengthAllowed (length a)) _ (λ e. absurd (n (length-ok (length a) e))) (λ e. e)
 
       neither : (Sound main → ⊥) → (Sound copy → ⊥) → bttInfoBlockOf a ≡ span 0 0
       neither n o =
-          by-bool (lengthAllowed (length a)) _ (λ e. rw (e, sound-claim .none main copy main-small copy-small n o .0)) (λ e. rw e)
+          by-bool (lengthAllowed (length a)) _ (λ e. rw (e, sound-claim .none main copy (main-small a small) (copy-small a small) n o .0)) (λ e. rw e)
 
 -- ---- refusals
 

@@ -146,7 +146,7 @@ is-sound b s =
     (long-at b 1022 4088 refl ∙ s .checksum ∙ sym (checksum-claim .block b (s .size)))
 
 -- not sound, as the test says it
-unsound : (b : List ℕ) → Small b → (Sound b → ⊥) → sound b ≡ false
+pub unsound : (b : List ℕ) → Small b → (Sound b → ⊥) → sound b ≡ false
 unsound b s n = by-bool (sound b) (sound b ≡ false) (λ e. absurd (n (sound-is b s e))) (λ e. e)
 
 no-arena : (a : List ℕ) → (Length (length a) → ⊥) → infoBlockOf a ≡ []

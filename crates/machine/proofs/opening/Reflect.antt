@@ -12,22 +12,23 @@ use Rattle.words.specs.Bytes.{Small, byteWord}
 use Rattle.layout.specs.Figures.{lengthAllowed}
 use Rattle.layout.specs.Place.{Layout}
 use Rattle.layout.specs.declared.Told.{Told}
+use Rattle.layout.proofs.InBytes.{allowed-claim}
 use Rattle.format.specs.MapWord.{flagsOf, lowBits, badWord}
 use Rattle.infoblock.specs.Info.{sound, countsOf, countingOf, infoBlockOf, infoAllowed, flagsAllowed}
-use Rattle.format.proofs.Tests.{by-bool, and-elim}
+use Rattle.format.proofs.Tests.{and-elim}
 use Rattle.format.proofs.Below.{below-take, below-drop}
-use Rattle.infoblock.proofs.InfoBlock.{length-of, of-length, info-in, counting-main, counting-copy, counting-none}
-use Rattle.infoblock.proofs.InBytes.{fields-claim, sound-claim}
+use Rattle.infoblock.proofs.InfoBlock.{info-in, counting-main, counting-copy, counting-none}
+use Rattle.infoblock.proofs.InBytes.{fields-claim, sound-claim, unsound}
 use Rattle.machine.specs.calls.Opening.{laneReadable}
 use Rattle.layout.specs.Claims.{Length}
 use Rattle.infoblock.specs.Claims.{Sound}
 use Rattle.machine.specs.words.Valid.{InfoOk, Readable, BadWord}
 
 pub length-ok : (n : ℕ) → lengthAllowed n ≡ true → Length n
-length-ok n e = let p = length-of n e in record { multiple = p .0; least = p .1; most = p .2 }
+length-ok = allowed-claim .length
 
 pub ok-length : (n : ℕ) → Length n → lengthAllowed n ≡ true
-ok-length n l = of-length n (l .multiple) (l .least) (l .most)
+ok-length = allowed-claim .length-back
 
 sound-ok : (b : List ℕ) → Small b → sound b ≡ true → Sound b
 sound-ok = sound-claim .sound-is
@@ -61,14 +62,11 @@ ok-bad blocks w b = rw (ne-eqb (flagsOf w) 0 (b .0), le-leb _ _ (b .1))
 
 -- ---- rule 2
 
-unsound : (b : List ℕ) → Small b → (Sound b → ⊥) → sound b ≡ false
-unsound b small n = by-bool (sound b) _ (λ e. absurd (n (sound-ok b small e))) (λ e. e)
-
 module _ (a : List ℕ) (small : Small a) where
-  main-small : Small (take 4096 a)
+  pub main-small : Small (take 4096 a)
   main-small = below-take 256 4096 a (omega arith) small
 
-  copy-small : Small (drop (length a - 4096) a)
+  pub copy-small : Small (drop (length a - 4096) a)
   copy-small = below-drop 256 (length a - 4096) a small
 
   pub main-unsound : (Sound (take 4096 a) → ⊥) → sound (take 4096 a) ≡ false
