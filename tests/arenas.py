@@ -60,7 +60,7 @@ def loose():
 def all_states():
     """Bad, zeroed and mapped words, and low bits that flags 00 leave ignored."""
     arena = fresh()
-    for sector, word in ((3, 0x00000009), (5, 0x80000005), (6, 0x40000006), (8, 0xC0000009), (9, 0xC0000008)):
+    for sector, word in ((3, 0x00000009), (5, 0x40000005), (6, 0x80000006), (8, 0xC0000009), (9, 0xC0000008)):
         mapped(arena, sector, word)
     return arena
 
@@ -73,7 +73,7 @@ ARENAS = {
     "loose-layout": loose,
     "all-map-states": all_states,
     "pending": lambda: half(fresh(), 0, 1, 7, 7, 60, 2),
-    "pending-bad-sector": lambda: mapped(half(fresh(), 0, 1, 7, 7, 60, 2), 7, 0x80000007),
+    "pending-bad-sector": lambda: mapped(half(fresh(), 0, 1, 7, 7, 60, 2), 7, 0x40000007),
     "two-pending": lambda: half(half(fresh(), 0, 1, 7, 7, 60, 2), 3, 1, 2, 2, 63, 2),
     "finished": lambda: mapped(half(fresh(), 0, 1, 7, 7, 60, 2), 7, 0xC000003C),
     "one-sector-twice": lambda: mapped(half(half(fresh(), 0, 1, 7, 7, 60, 2), 1, 1, 7, 60, 61, 2), 7, 0xC000003D),
@@ -99,7 +99,7 @@ ARENAS = {
     "refused-6-old": lambda: half(fresh(), 1, 1, 7, 64, 61, 2),
     "refused-6-new": lambda: half(fresh(), 1, 1, 7, 61, 64, 2),
     "refused-6-before-7": lambda: mapped(half(fresh(), 3, 1, 7, 61, 64, 2), 0, 0xC0000040),
-    "refused-7": lambda: mapped(fresh(), 59, 0x80000040),
+    "refused-7": lambda: mapped(fresh(), 59, 0x40000040),
     "refused-7-high-bits": lambda: mapped(fresh(), 5, 0xE0000005),
     "refused-8-mapped-twice": lambda: mapped(fresh(), 5, 0xC0000006),
     "refused-8-free-twice": lambda: half(fresh(), 0, 1, 7, 61, 61, 2),

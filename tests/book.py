@@ -16,9 +16,10 @@ class Write:
 def reading(arena, f, sector):
     """The number that a read of the sector answers, and the bytes it gives if that is 0."""
     word = struct.unpack_from("<I", arena, f.map + 4 * sector)[0]
-    if word & 0xC0000000 == 0x80000000:
+    zero, error = word >> 31 & 1, word >> 30 & 1
+    if error and not zero:
         return 15, None
-    if word & 0xC0000000 != 0xC0000000:
+    if not error:
         return 0, bytes(f.size)
     place = f.data + f.size * (word & 0x3FFFFFFF)
     return 0, bytes(arena[place : place + f.size])

@@ -8,7 +8,9 @@ from typing import NamedTuple
 
 import model
 
-DATA_WORD = 0xC0000000
+# The flags of a map word: Zero alone reads as zeroes, Error alone is a bad sector, both are data.
+ZERO, ERROR = 1 << 31, 1 << 30
+DATA_WORD = ZERO | ERROR
 
 ORDER = {
     "read": (16, 9, 10, 7, 15),
@@ -84,7 +86,7 @@ def applies(number, arena, handle, lane, sector, length):
     word = map_word(arena, f, sector)
     if number == 7:
         return word >> 30 != 0 and word & 0x3FFFFFFF >= f.blocks
-    return word >> 30 == 2
+    return word & DATA_WORD == ERROR
 
 
 def others(handle, lane):
@@ -132,7 +134,7 @@ def read(arena, handle, sector, buffer):
         f = handle.figures
         word = map_word(arena, f, sector)
         place = f.data + f.size * model.block_of(sector, word)
-        buffer[:] = arena[place : place + f.size] if word >> 30 == 3 else bytes(f.size)
+        buffer[:] = arena[place : place + f.size] if word & DATA_WORD == DATA_WORD else bytes(f.size)
     return number
 
 

@@ -38,7 +38,7 @@ enum btt_answer {
     BTT_LANE_BUSY = 12,         /* the lane has a write in flight */
     BTT_SECTOR_BUSY = 13,       /* another lane has that sector in flight */
     BTT_LANE_IDLE = 14,         /* the lane has no write in flight */
-    BTT_BAD_SECTOR = 15,        /* the sector read is marked bad */
+    BTT_BAD_SECTOR = 15,        /* the sector read is marked bad: its map word has bit 30 (Error) alone */
     BTT_BAD_HANDLE = 16         /* the handle breaks a figure, has a record out of range, or does not match the arena's length */
 };
 
@@ -120,7 +120,8 @@ uint32_t btt_open(uint8_t *arena, size_t arena_length, uint8_t *work, size_t wor
 uint32_t btt_cut_open(uint8_t *arena, size_t arena_length, uint8_t *work, size_t work_length, uint32_t k, uint32_t *mended);
 
 /*
- * Reads a sector into a buffer of a sector's length: what the last finished write stored, or zeroes.
+ * Reads a sector into a buffer of a sector's length: what the last finished write stored, or zeroes where the sector was never written
+ * or its map word has bit 31 (Zero) alone; with bit 30 (Error) alone it is bad.
  * Answers 16, 9, 10, 7 (of that sector's map word), 15; a refusal leaves the buffer.
  */
 uint32_t btt_read(const uint8_t *arena, size_t arena_length, const struct btt_handle *handle, uint32_t sector, uint8_t *buffer,

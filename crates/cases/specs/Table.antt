@@ -22,8 +22,8 @@ case2 =
 abbrev pub case3 : List Worked
 case3 =
     (blockOf 7 0x00000005 is 7) ∷ (readingOf (flagsOf 0x00000005) is 0)
-    ∷ (blockOf 7 0x40000005 is 5) ∷ (readingOf (flagsOf 0x40000005) is 0)
-    ∷ (blockOf 7 0x80000005 is 5) ∷ (readingOf (flagsOf 0x80000005) is 1)
+    ∷ (blockOf 7 0x40000005 is 5) ∷ (readingOf (flagsOf 0x40000005) is 1)
+    ∷ (blockOf 7 0x80000005 is 5) ∷ (readingOf (flagsOf 0x80000005) is 0)
     ∷ (blockOf 7 0xC0000005 is 5) ∷ (readingOf (flagsOf 0xC0000005) is 2) ∷ []
 
 -- beside case 3: each of bits 29 to 0 counts, and under flags 00 none does
@@ -31,6 +31,7 @@ abbrev pub case3-bits : List Worked
 case3-bits =
     (blockOf 7 0xE0000005 is 0x20000005) ∷ (readingOf (flagsOf 0xE0000005) is 2)
     ∷ (blockOf 7 0xC0010005 is 0x10005) ∷ (blockOf 7 0x7FFFFFFF is 0x3FFFFFFF)
+    ∷ (readingOf (flagsOf 0x7FFFFFFF) is 1) ∷ (readingOf (flagsOf 0xBFFFFFFF) is 0)
     ∷ (blockOf 7 0x3FFFFFFF is 7) ∷ (readingOf (flagsOf 0x3FFFFFFF) is 0) ∷ []
 
 -- case 4: checksums of runs of words

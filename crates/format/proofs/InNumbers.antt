@@ -1,21 +1,21 @@
 -- Map words, sequence numbers and halves by plain numbers: the tests of the definitions taken apart, the set numbers tried one by one.
-use mathlib.Core.Path.{_≡_, refl, ap₂}
+use mathlib.Core.Path.{_≡_, refl, sym, ap₂}
 use mathlib.Core.Logic.{inl, inr}
-use mathlib.Core.Bool.{true, cond, not}
+use mathlib.Core.Bool.{Bool, true, false, cond, not}
 use mathlib.Core.List.{List}
-use Prim.Native.Nat.{ℕ, _+_, _-_, _*_, _%_, _≤_}
+use Prim.Native.Nat.{ℕ, _+_, _-_, _*_, _≤_, _<_}
 use native.Mathlib.Omega.{arith}
 use native.Mathlib.Nat.{div-add-mod'}
-use native.Mathlib.Decide.{decLe}
+use native.Mathlib.Decide.{decLe, decLt}
 use lib.Dec.{eqb, leb}
-use borrow.Author.Tests.{ne-eqb, eqb-false, leb-true, le-leb, not-true}
+use borrow.Author.Tests.{eq-eqb, ne-eqb, eqb-true, eqb-false, leb-true, le-leb, lt-ltb, le-ltb, not-true}
 use Rattle.words.specs.Bytes.{byteWord}
 use Rattle.words.proofs.Bytes.{word-at}
 use Rattle.format.specs.MapWord.{flagsOf, lowBits, readingOf, blockOf, badWord}
 use Rattle.format.specs.Sequence.{successor, newer}
 use Rattle.format.specs.Flog.{newerOfPair, halfAt}
-use Rattle.format.specs.Claims.{Means, MapWordsClaim, NewerThan, HalfFrom, FlogClaim}
-use Rattle.format.proofs.Tests.{and-elim}
+use Rattle.format.specs.Claims.{Bit30Alone, namedBlock, BadWord, Means, MapWordsClaim, NewerThan, HalfFrom, FlogClaim}
+use Rattle.format.proofs.Tests.{true-false, and-elim}
 use Rattle.format.proofs.NewerCases.{
   newer-big,
   newer-big-second,
@@ -33,27 +33,46 @@ word-of : (s w n r b : ℕ) → flagsOf w ≡ n → readingOf n ≡ r → cond (
 unfolding blockOf
 word-of s w n r b e f g = record { reads = rw e f; block = rw e g }
 
-rule-7 : (blocks w : ℕ) → badWord blocks w ≡ true → (1073741824 ≤ w) × (blocks ≤ w % 1073741824)
+block-named : (s w : ℕ) → blockOf s w ≡ namedBlock s w
+unfolding blockOf
+block-named s w = go (decLt w 1073741824)
+  where
+    go : Dec (w < 1073741824) → cond (eqb (flagsOf w) 0) s (lowBits w) ≡ namedBlock s w
+    go (yes u) = rw (eq-eqb (flagsOf w) 0 (omega arith), lt-ltb w 1073741824 u)
+    go (no u) = rw (ne-eqb (flagsOf w) 0 (λ e. omega arith), le-ltb w 1073741824 (omega arith))
+
+rule-7 : (blocks w : ℕ) → badWord blocks w ≡ true → BadWord blocks w
 rule-7 blocks w e =
     let p = and-elim (not (eqb (flagsOf w) 0)) (leb blocks (lowBits w)) e in
     let n = eqb-false (flagsOf w) 0 (not-true (eqb (flagsOf w) 0) (p .0)) in
     (omega arith, leb-true blocks (lowBits w) (p .1))
 
+rule-15 : (w : ℕ) → eqb (readingOf (flagsOf w)) 1 ≡ true → Bit30Alone w
+rule-15 w e = go (eqb (flagsOf w) 3) (eqb (flagsOf w) 1) refl e
+  where
+    go : (t u : Bool) → eqb (flagsOf w) 1 ≡ u → eqb (cond t 2 (cond u 1 0)) 1 ≡ true → Bit30Alone w
+    go true u p q = true-false (sym q)
+    go false true p q = let f = eqb-true (flagsOf w) 1 p in (omega arith, omega arith)
+    go false false p q = true-false (sym q)
+
 pub map-words : MapWordsClaim
 map-words =
     record {
       flags-00 = λ s w h. word-of s w 0 0 s (omega arith) refl refl;
-      flags-01 = λ s w l h. word-of s w 1 0 (w - 1073741824) (omega arith) refl (omega arith);
-      flags-10 = λ s w l h. word-of s w 2 1 (w - 2147483648) (omega arith) refl (omega arith);
-      flags-11 = λ s w l h. word-of s w 3 2 (w - 3221225472) (omega arith) refl (omega arith);
+      flags-01 = λ s w h. word-of s w 1 1 (w - 1073741824) (omega arith) refl (omega arith);
+      flags-10 = λ s w h. word-of s w 2 0 (w - 2147483648) (omega arith) refl (omega arith);
+      flags-11 = λ s w h. word-of s w 3 2 (w - 3221225472) (omega arith) refl (omega arith);
       states = (refl, refl, refl, refl);
       readings = (refl, refl, refl);
       bits = λ w. div-add-mod' w 1073741824;
       low-bits = λ w. omega arith;
+      block = block-named;
       written = λ b. refl;
       written-reads = λ s b h. record { reads = rw (flags-mapped b h); block = block-mapped s b h };
-      rule-7 = λ blocks w e. rule-7 blocks w e;
-      rule-7-back = λ blocks w h l. rw (ne-eqb (flagsOf w) 0 (λ e. omega arith), le-leb blocks (lowBits w) l);
+      rule-7 = rule-7;
+      rule-7-back = λ blocks w b. rw (ne-eqb (flagsOf w) 0 (λ e. omega arith), le-leb blocks (lowBits w) (b .1));
+      rule-15 = rule-15;
+      rule-15-back = λ w b. let f : flagsOf w ≡ 1 = omega arith in rw f;
     }
 
 half-from : (a : List ℕ) (p : ℕ) → HalfFrom a (4 * p) (halfAt a p)

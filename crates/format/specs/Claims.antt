@@ -1,17 +1,44 @@
 -- Map words, sequence numbers and halves said a second time, by plain numbers and byte offsets.
 use mathlib.Core.Path.{_≡_}
 use mathlib.Core.Logic.{_⊎_}
-use mathlib.Core.Bool.{true}
+use mathlib.Core.Bool.{true, cond}
 use mathlib.Core.List.{List}
 use Prim.Native.Nat.{ℕ, _+_, _-_, _*_, _%_, _≤_, _<_}
+use lib.Dec.{eqb, ltb}
 use Rattle.words.specs.Bytes.{byteWord}
 use Rattle.format.specs.MapWord.{flagsOf, lowBits, flagBits, readingOf, readingNumber, blockOf, mappedTo, badWord}
 use Rattle.format.specs.Sequence.{successor, nextOf, newer, halfOf}
 use Rattle.format.specs.Flog.{newerOfPair, halfAt}
-use Rattle.format.specs.declared.map.MapState.the-variants.{Unwritten, Zeroed, Bad, Data}
+use Rattle.format.specs.declared.map.MapState.the-variants.{Unwritten, Bad, Zeroed, Data}
 use Rattle.format.specs.declared.map.Reading.the-variants.{Zeroes, BadSector, Bytes}
 use Rattle.format.specs.declared.sequence.Newer.the-variants.{First, Second, Neither}
 use Rattle.format.specs.declared.flog.Half.{Half}
+
+-- ---- the flags of a map word as numbers: bit 31 is Zero, bit 30 is Error
+
+-- neither bit, 00: below 0x40000000
+abbrev pub NeitherBit : ℕ → Type 0
+NeitherBit w = w < 0x40000000
+
+-- bit 30 alone, 01: from 0x40000000 to 0x7FFFFFFF
+abbrev pub Bit30Alone : ℕ → Type 0
+Bit30Alone w = (0x40000000 ≤ w) × (w < 0x80000000)
+
+-- bit 31 alone, 10: from 0x80000000 to 0xBFFFFFFF
+abbrev pub Bit31Alone : ℕ → Type 0
+Bit31Alone w = (0x80000000 ≤ w) × (w < 0xC0000000)
+
+-- both bits, 11: from 0xC0000000 to 0xFFFFFFFF
+abbrev pub BothBits : ℕ → Type 0
+BothBits w = (0xC0000000 ≤ w) × (w < 0x100000000)
+
+-- the block of word w of sector s: its own number where neither bit is set, else bits 29 to 0
+abbrev pub namedBlock : ℕ → ℕ → ℕ
+namedBlock s w = cond (ltb w 0x40000000) s (w % 0x40000000)
+
+-- rule 7: a bit is set, and bits 29 to 0 are I or more
+abbrev pub BadWord : ℕ → ℕ → Type 0
+BadWord blocks w = (0x40000000 ≤ w) × (blocks ≤ w % 0x40000000)
 
 -- a word w of sector s reads as r, which is zeroes (0), the bad-sector answer (1) or the block's bytes (2), and stands for block b
 pub record Means (s w r b : ℕ) : Type 0 where
@@ -20,26 +47,29 @@ pub record Means (s w r b : ℕ) : Type 0 where
 
 -- FORMAT 4
 pub record MapWordsClaim : Type 0 where
-  -- 00, below 0x40000000: zeroes, and the sector's own number
-  pub flags-00 : (s w : ℕ) → w < 1073741824 → Means s w 0 s
-  -- 01, from 0x40000000: zeroes, and the low bits
-  pub flags-01 : (s w : ℕ) → 1073741824 ≤ w → w < 2147483648 → Means s w 0 (w - 1073741824)
-  -- 10, from 0x80000000: bad, and the low bits
-  pub flags-10 : (s w : ℕ) → 2147483648 ≤ w → w < 3221225472 → Means s w 1 (w - 2147483648)
-  -- 11, from 0xC0000000: the block's bytes, and the low bits
-  pub flags-11 : (s w : ℕ) → 3221225472 ≤ w → w < 4294967296 → Means s w 2 (w - 3221225472)
+  -- 00: zeroes, and the sector's own number
+  pub flags-00 : (s w : ℕ) → NeitherBit w → Means s w 0 s
+  -- 01: bad, and the low bits
+  pub flags-01 : (s w : ℕ) → Bit30Alone w → Means s w 1 (w - 0x40000000)
+  -- 10: zeroes, and the low bits
+  pub flags-10 : (s w : ℕ) → Bit31Alone w → Means s w 0 (w - 0x80000000)
+  -- 11: the block's bytes, and the low bits
+  pub flags-11 : (s w : ℕ) → BothBits w → Means s w 2 (w - 0xC0000000)
   -- the numbers of the states and of the readings that the code names
-  pub states : (flagBits Unwritten ≡ 0) × (flagBits Zeroed ≡ 1) × (flagBits Bad ≡ 2) × (flagBits Data ≡ 3)
+  pub states : (flagBits Unwritten ≡ 0) × (flagBits Bad ≡ 1) × (flagBits Zeroed ≡ 2) × (flagBits Data ≡ 3)
   pub readings : (readingNumber Zeroes ≡ 0) × (readingNumber BadSector ≡ 1) × (readingNumber Bytes ≡ 2)
   -- bits 31 and 30 and bits 29 to 0 make the word
-  pub bits : (w : ℕ) → flagsOf w * 1073741824 + lowBits w ≡ w
-  pub low-bits : (w : ℕ) → lowBits w < 1073741824
+  pub bits : (w : ℕ) → flagsOf w * 0x40000000 + lowBits w ≡ w
+  pub low-bits : (w : ℕ) → lowBits w < 0x40000000
+  pub block : (s w : ℕ) → blockOf s w ≡ namedBlock s w
   -- a write stores flags 11 and the block, which then reads as that block's bytes
-  pub written : (b : ℕ) → mappedTo b ≡ 3221225472 + b
-  pub written-reads : (s b : ℕ) → b < 1073741824 → Means s (mappedTo b) 2 b
-  -- rule 7: flags other than 00, and low bits of I or more
-  pub rule-7 : (blocks w : ℕ) → badWord blocks w ≡ true → (1073741824 ≤ w) × (blocks ≤ w % 1073741824)
-  pub rule-7-back : (blocks w : ℕ) → 1073741824 ≤ w → blocks ≤ w % 1073741824 → badWord blocks w ≡ true
+  pub written : (b : ℕ) → mappedTo b ≡ 0xC0000000 + b
+  pub written-reads : (s b : ℕ) → b < 0x40000000 → Means s (mappedTo b) 2 b
+  pub rule-7 : (blocks w : ℕ) → badWord blocks w ≡ true → BadWord blocks w
+  pub rule-7-back : (blocks w : ℕ) → BadWord blocks w → badWord blocks w ≡ true
+  -- rule 15: bit 30 alone
+  pub rule-15 : (w : ℕ) → eqb (readingOf (flagsOf w)) 1 ≡ true → Bit30Alone w
+  pub rule-15-back : (w : ℕ) → Bit30Alone w → eqb (readingOf (flagsOf w)) 1 ≡ true
 
 -- y is the successor of x
 abbrev pub Follows : ℕ → ℕ → Type 0

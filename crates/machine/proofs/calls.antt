@@ -7,3 +7,4 @@ pub mod Tables
 pub mod Packed
 pub mod Packing
 pub mod Records
+pub mod Written

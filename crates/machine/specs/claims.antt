@@ -5,4 +5,5 @@ pub mod Packing
 pub mod DemandOne
 pub mod DemandTwo
 pub mod DemandThree
+pub mod Written
 pub mod Exhibit

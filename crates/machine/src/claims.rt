@@ -2,6 +2,7 @@
 ghost use Rattle.machine.specs.claims.DemandOne.{DemandOne};
 ghost use Rattle.machine.specs.claims.DemandTwo.{DemandTwo};
 ghost use Rattle.machine.specs.claims.DemandThree.{DemandThree};
+ghost use Rattle.machine.specs.claims.Written.{WrittenWords};
 ghost use Rattle.machine.specs.claims.Exhibit.{Exhibited};
 
 // Every call answers by its row of the table, and a refusal changes nothing.
@@ -17,6 +18,11 @@ pub fn demand_two()
 // A list of calls, cut anywhere, leaves what the plain book says, and opening it finishes just the writes that lack their map word.
 pub fn demand_three()
     ensures demand_three { λ _. ⌜ DemandThree ⌝ }
+{}
+
+// Every call leaves each map word as it was, or with flags 11 and a block, and making leaves zeroes.
+pub fn written_words()
+    ensures written_words { λ _. ⌜ WrittenWords ⌝ }
 {}
 
 // There is a run on a made arena that meets the premises of demands 2 and 3.

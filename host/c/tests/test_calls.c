@@ -24,8 +24,9 @@ static void test_read(void)
     static const struct {
         uint32_t word, answer;
     } rows[] = {
-        {0x00000000, 0}, {0x00000040, 0}, {0x3FFFFFFF, 0}, {0x40000009, 0}, {0x4000003F, 0}, {0x80000005, 15}, {0x8000003F, 15},
-        {0x40000040, 7}, {0x80000040, 7}, {0xC0000040, 7}, {0xFFFFFFFF, 7}, {0x80000041, 7},
+        /* neither flag, bit 30 (Error) alone, bit 31 (Zero) alone */
+        {0x00000000, 0}, {0x00000040, 0}, {0x3FFFFFFF, 0}, {0x40000005, 15}, {0x40000009, 15}, {0x4000003F, 15}, {0x80000005, 0}, {0x80000009, 0},
+        {0x8000003F, 0}, {0x40000040, 7}, {0x80000040, 7}, {0xC0000040, 7}, {0x7FFFFFFF, 7}, {0xFFFFFFFF, 7}, {0x80000041, 7},
     };
 
     fresh_case();
@@ -66,7 +67,7 @@ static void test_start(void)
     CALL(9, NOTHING, start(1, 0xFFFFFFFF));
     CALL(13, NOTHING, start(1, 7));
     CALL(7, NOTHING, start(1, 5));
-    put32(map_word(6), 0x80000021);
+    put32(map_word(6), 0x40000021);
     handle->lane[1].sector = 59;
     handle->lane[1].old = 63;
     handle->lane[1].made = LAST;

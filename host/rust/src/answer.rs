@@ -45,7 +45,7 @@ pub enum Answer {
     SectorBusy = 13,
     /// 14: the lane has no write in flight.
     LaneIdle = 14,
-    /// 15: the sector read is marked bad.
+    /// 15: the sector read is marked bad: its map word has bit 30 (Error) alone.
     BadSector = 15,
     /// 16: the handle breaks a figure, has a record out of range, or does not match the arena's length.
     BadHandle = 16,

@@ -7,6 +7,7 @@ use btt::{
 use plain::{put_word, seal, word};
 use support::GEOMETRY;
 
+const DATA: usize = 4096;
 const MAP: usize = 36_864;
 const FLOG: usize = 40_960;
 
@@ -163,9 +164,24 @@ fn opening_is_refused_with_each_number() {
 }
 
 #[test]
+fn a_map_word_is_read_by_its_flags() {
+    let mut memory = fresh();
+    memory[DATA + 512 * 5..][..512].fill(7);
+    // Neither bit, bit 30 (Error) alone, bit 31 (Zero) alone, both.
+    for (word, read) in
+        [(0, Ok([0; 512])), (0x4000_0005, Err(Answer::BadSector)), (0x8000_0005, Ok([0; 512])), (0xC000_0005, Ok([7; 512]))]
+    {
+        put_word(&mut memory, MAP + 4 * 5, word);
+        let (arena, handle) = opened(&mut memory);
+        let mut buffer = [3; 512];
+        assert_eq!(arena.read(&handle, 5, &mut buffer).map(|()| buffer), read, "{word:#010x}");
+    }
+}
+
+#[test]
 fn reads_and_writes_are_refused_with_each_number() {
     let mut memory = fresh();
-    put_word(&mut memory, MAP + 4 * 5, 0x8000_0005);
+    put_word(&mut memory, MAP + 4 * 5, 0x4000_0005);
     let (mut arena, mut handle) = opened(&mut memory);
     let mut buffer = [3; 512];
     assert_eq!(arena.read(&handle, 59, &mut buffer), Ok(()));

@@ -243,7 +243,7 @@ fn refused_reads_and_writes_change_nothing() {
         assert!(fs::read(place.path("arena")).unwrap() == before);
     }
     let mut bad = before.clone();
-    put_word(&mut bad, 36_864, 0x8000_0000);
+    put_word(&mut bad, 36_864, 0x4000_0000);
     fs::write(place.path("arena"), &bad).unwrap();
     assert!(place.refused("read arena 0", &[]).2.starts_with("btt: refused 15: "));
     place.done("write arena 0", &[4; 512]);
@@ -288,8 +288,8 @@ fn a_dump_tells_everything() {
     place.done("make arena --size 512 --sectors 5 --lanes 2", &[]);
     place.done("write arena 3", &[0; 512]);
     let mut arena = fs::read(place.path("arena")).unwrap();
-    put_word(&mut arena, 8192, 0x8000_0000);
-    put_word(&mut arena, 8196, 0x4000_0001);
+    put_word(&mut arena, 8192, 0x4000_0000);
+    put_word(&mut arena, 8196, 0x8000_0001);
     arena[0] = 0;
     fs::write(place.path("arena"), &arena).unwrap();
     let expected =

@@ -20,7 +20,7 @@ append (x ∷ xs) ys p q = (p .0, append xs ys (p .1) q)
 -- cases 1 to 5 are computed
 computed : AllDue (case1 ++ (case2 ++ (case3 ++ (case3-bits ++ (case4 ++ case5)))))
 unfolding added addedAll fletcher64 successor newer blockOf freshFigures freshLength
-computed = (refl, (refl, (refl, (refl, (refl, (refl, (refl, (refl, (refl, (refl, (refl, (refl, (refl, (refl, (refl, (refl, (refl, (refl, (refl, (refl, (refl, (refl, (refl, (refl, (refl, (refl, (refl, (refl, (refl, (refl, (refl, (refl, (refl, (refl, (refl, tt)))))))))))))))))))))))))))))))))))
+computed = (refl, (refl, (refl, (refl, (refl, (refl, (refl, (refl, (refl, (refl, (refl, (refl, (refl, (refl, (refl, (refl, (refl, (refl, (refl, (refl, (refl, (refl, (refl, (refl, (refl, (refl, (refl, (refl, (refl, (refl, (refl, (refl, (refl, (refl, (refl, (refl, (refl, tt)))))))))))))))))))))))))))))))))))))
 
 all-due : AllDue table
 unfolding table newer successor

@@ -5,15 +5,17 @@ use mathlib.Core.List.{List, List·Memᴰ, List·Memᴰ·head, List·Memᴰ·tai
 use mathlib.Core.Bool.{true, false, cond, not, _&&_}
 use Prim.Native.Nat.{ℕ, _<_}
 use native.Mathlib.Omega.{arith}
-use lib.Dec.{eqb}
-use borrow.Author.Tests.{leb-false, ltb-true, ltb-false, eqb-true, eq-eqb, ne-eqb, not-true, not-false}
-use Rattle.format.proofs.Tests.{by-bool, and-elim}
+use lib.Dec.{eqb, leb, ltb}
+use borrow.Author.Tests.{leb-true, leb-false, le-leb, lt-ltb, ltb-true, ltb-false, eqb-true, eq-eqb, ne-eqb, not-true, not-false}
+use Rattle.format.specs.MapWord.{flagsOf, readingOf}
+use Rattle.format.proofs.Tests.{true-false, by-bool, and-elim, and-intro}
 use Rattle.format.proofs.MapWord.{flags-mapped}
+use Rattle.format.proofs.InNumbers.{map-words}
 use Rattle.layout.specs.Place.{layoutOf}
 use Rattle.layout.specs.declared.Figures.{Figures}
 use Rattle.machine.specs.state.Lane.{writeStores, isBusy}
 use Rattle.machine.specs.state.Handle.{Handle, laneAt, laidOut, ToldOk}
-use Rattle.machine.specs.state.Flog.{freeOf}
+use Rattle.machine.specs.state.Flog.{mapWord, freeOf}
 use Rattle.machine.specs.calls.Opening.{figuresIn, layoutIn, handleFor}
 use Rattle.machine.specs.calls.Reading.{Read, readOf}
 use Rattle.machine.specs.calls.Judging.{inFlight, tests, callNumber}
@@ -36,6 +38,7 @@ use Rattle.machine.specs.models.Row.{holds, rowRead}
 use Rattle.machine.specs.calls.History.{Call, read, start, step, write, State, justNumber, reply}
 use Rattle.machine.specs.models.Book.{
   Entry,
+  badBits,
   inFlightYet,
   laneFlies,
   sectorFlies,
@@ -70,6 +73,16 @@ holds-read : (f : Figures) (bytes : List ℕ) (s : ℕ) (buffer : List ℕ) → 
     → (readBy f (holds bytes) s buffer) .buffer ≡ bytes
 unfolding rowRead
 holds-read f bytes s buffer e = rw e
+
+-- a bad sector by the bits of its map word
+bad-bits : (w : ℕ) → eqb (readingOf (flagsOf w)) 1 ≡ badBits w
+bad-bits w = by-bool (badBits w) _
+    (λ t. let p = and-elim (leb 0x40000000 w) (ltb w 0x80000000) t in
+    map-words .rule-15-back w (leb-true 0x40000000 w (p .0), ltb-true w 0x80000000 (p .1)) ∙ sym t)
+    (λ t. by-bool (eqb (readingOf (flagsOf w)) 1) _
+    (λ u. let b = map-words .rule-15 w u in
+    absurd (true-false (sym (and-intro _ _ (le-leb 0x40000000 w (b .0)) (lt-ltb w 0x80000000 (b .1))) ∙ t)))
+    (λ u. u ∙ sym t))
 
 module _ (τ : Told) (told : ToldOk τ) where
   pub record Sim (a : List ℕ) (bytes : ℕ → List ℕ) (b : List Entry) (y : State) : Type 0 where
@@ -137,7 +150,7 @@ module _ (τ : Told) (told : ToldOk τ) where
         let c : freeOf (layoutIn τ a) a (d .entry .lane) < 1073741824 =
         omega (arith, x .free-in (d .entry .lane) (z .ok .each (d .entry) (d .member) .lane-in), x .ok .small) in
         rw (t, ← d .sector, word-new τ told a bytes x b (z .ok) (d .entry) (d .member) (d .whole), flags-mapped _ c))
-        (λ t. rw (t, kept-map τ told a bytes x b (z .ok) s (sectors-in (τ .distance) (figuresIn a) s u) (early s t))))
+        (λ t. rw (t, kept-map τ told a bytes x b (z .ok) s (sectors-in (τ .distance) (figuresIn a) s u) (early s t)) (bad-bits (mapWord (layoutIn τ a) a s))))
 
     agree : (r : Rule) → Needs (figuresIn a) r → tests (y .arena) (y .handle) r ≡ bookTests τ a b r
     agree badHandle u = rw (held-allowed τ told (y .arena) (y .handle) (z .held))

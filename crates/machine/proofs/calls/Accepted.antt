@@ -3,16 +3,15 @@ use mathlib.Core.Path.{_≡_}
 use mathlib.Core.Bool.{true, false}
 use mathlib.Core.List.{List}
 use Prim.Native.Nat.{ℕ, _<_}
-use lib.Dec.{eqb}
 use lib.ListN.{length}
 use borrow.Author.Tests.{eqb-true, leb-false, not-false}
-use Rattle.format.specs.MapWord.{flagsOf, readingOf, badWord}
+use Rattle.format.specs.MapWord.{badWord}
 use Rattle.machine.specs.Rules.{answer}
 use Rattle.machine.specs.state.Lane.{isBusy}
 use Rattle.machine.specs.state.Handle.{Handle, laneAt, laidOut, handleAllowed}
 use Rattle.machine.specs.state.Flog.{mapWord}
-use Rattle.machine.specs.calls.Order.{read, start, step, write}
-use Rattle.machine.specs.calls.Judging.{inFlight, callNumber}
+use Rattle.machine.specs.calls.Order.{read, start, step, write, badSector}
+use Rattle.machine.specs.calls.Judging.{inFlight, tests, callNumber}
 use Rattle.machine.proofs.rules.Running.{call-passed}
 
 module _ (a : List ℕ) (h : Handle) where
@@ -21,7 +20,7 @@ module _ (a : List ℕ) (h : Handle) where
     pub sector : s < h .figures .sectors
     pub size : length buffer ≡ h .figures .size
     pub word : badWord (h .figures .blocks) (mapWord (laidOut h) a s) ≡ false
-    pub not-bad : eqb (readingOf (flagsOf (mapWord (laidOut h) a s))) 1 ≡ false
+    pub not-bad : tests a h (badSector s) ≡ false
 
   pub read-found : (s : ℕ) (buffer : List ℕ) → callNumber a h (read s buffer) ≡ 0 → ReadFound s buffer
   read-found s buffer e =

@@ -2,7 +2,7 @@
 -- the condition in words holds; the rows are these steps in their order.
 use mathlib.Core.Path.{_≡_, refl, sym, _∙_}
 use mathlib.Core.Logic.{_≢_, _⊎_, inl, inr, ⊎-elim}
-use mathlib.Core.Bool.{Bool, true, false, cond, _&&_}
+use mathlib.Core.Bool.{Bool, true, false, _&&_}
 use mathlib.Core.List.{List, [], _∷_}
 use Prim.Native.Nat.{ℕ, _≤_, _<_}
 use native.Mathlib.Omega.{arith}
@@ -12,7 +12,7 @@ use lib.ListN.{length}
 use borrow.Author.Tests.{ltb-true, leb-true, eqb-true, lt-ltb, le-leb, eq-eqb, ne-eqb, eqb-false, not-true, not-false}
 use Rattle.format.specs.Tests.{every}
 use Rattle.format.specs.Sequence.{isSet}
-use Rattle.format.specs.MapWord.{readingOf}
+use Rattle.format.proofs.InNumbers.{map-words}
 use Rattle.layout.specs.Figures.{lengthAllowed, figuresAllowed}
 use Rattle.layout.specs.Place.{Layout}
 use Rattle.layout.specs.Fit.{Fit}
@@ -146,18 +146,6 @@ module _ (lanes : List Lane) (n s : ℕ) where
   unfolding inFlight flight-test
   ok-flight w = some-found n flight-test (w .0) (w .1) (and-intro _ _ (word-busy (laneAt lanes (w .0)) (w .2)) (eq-eqb _ _ (w .3)))
 
--- flags 10, and no others, read as a bad sector
-bad-flags : (flags : ℕ) → eqb (readingOf flags) 1 ≡ true → flags ≡ 2
-bad-flags flags e = go (eqb flags 3) (eqb flags 2) refl e
-  where
-    go : (t u : Bool) → eqb flags 2 ≡ u → eqb (cond t 2 (cond u 1 0)) 1 ≡ true → flags ≡ 2
-    go true u p q = true-false (sym q)
-    go false true p q = eqb-true flags 2 p
-    go false false p q = true-false (sym q)
-
-flags-bad : (flags : ℕ) → flags ≡ 2 → eqb (readingOf flags) 1 ≡ true
-flags-bad flags e = rw e
-
 -- ---- each rule's test tells whether it holds in words
 
 module _ (a : List ℕ) (h : Handle) where
@@ -173,7 +161,7 @@ module _ (a : List ℕ) (h : Handle) where
   tells (laneIdle l) = (λ e. idle-word (laneAt (h .lanes) l) (not-true _ e), λ e. rw (word-idle (laneAt (h .lanes) l) e))
   tells (sectorBusy s) = (flight-ok _ _ s, ok-flight _ _ s)
   tells (badMapWord s) = (bad-ok _ _, ok-bad _ _)
-  tells (badSector s) = (bad-flags _, flags-bad _)
+  tells (badSector s) = (map-words .rule-15 _, map-words .rule-15-back _)
 
   -- along any order the first rule that holds gives the number
   pub first-holds : (rs : List Rule) → FirstOf number (Holds a h) rs (answer number (tests a h) rs)

@@ -1,6 +1,6 @@
 -- What an accepted read, start and step do, in bytes, of any handle. Rule 16 passed, so the figures are allowed and the lane's record is in range;
 -- a record that is missing from the list has sequence 0 and is not, so the lane's record is one of the list.
-use mathlib.Core.Path.{_≡_, refl, sym, ap, _∙_}
+use mathlib.Core.Path.{_≡_, refl, sym, ap, _∙_, subst}
 use mathlib.Core.Logic.{⊎-elim}
 use mathlib.Core.Bool.{Bool, true, false, cond}
 use mathlib.Core.List.{List}
@@ -9,13 +9,16 @@ use native.Mathlib.Omega.{arith}
 use native.Mathlib.Decide.{decLt}
 use lib.Dec.{ltb}
 use lib.ListN.{length, take, drop, length-set, List·getD-eq-default}
-use borrow.Author.Tests.{eq-eqb, ne-eqb}
+use borrow.Author.Tests.{eq-eqb}
+use Rattle.format.proofs.Tests.{true-false}
 use Rattle.words.specs.Word.{word, putWord}
 use Rattle.words.specs.Bytes.{Small, byteWord}
 use Rattle.words.proofs.Laws.{length-putWord, getD-putWord-other, word-putWord-same}
-use Rattle.format.specs.MapWord.{flagsOf, blockOf}
+use Rattle.format.specs.MapWord.{blockOf}
+use Rattle.format.specs.Claims.{NeitherBit, Bit31Alone, BothBits, namedBlock}
+use Rattle.format.proofs.InNumbers.{map-words}
 use Rattle.layout.specs.Figures.{Allowed}
-use Rattle.layout.specs.Place.{LayoutOk, layoutOf, at, inData}
+use Rattle.layout.specs.Place.{Layout, LayoutOk, layoutOf, at, inData}
 use Rattle.layout.specs.declared.Figures.{Figures}
 use Rattle.words.proofs.Bytes.{word-at}
 use Rattle.layout.proofs.Offsets.{data-start, map-start}
@@ -24,31 +27,43 @@ use Rattle.machine.specs.declared.lane.Lane.{Lane}
 use Rattle.machine.specs.state.Handle.{Handle, laneAt, withLane, laidOut}
 use Rattle.machine.specs.state.Lane.{noLane, startedLane, laneAfter, finishedLane, writeStores}
 use Rattle.machine.specs.state.Flog.{mapWord, mapBlock}
-use Rattle.machine.specs.words.InBytes.{mapByte}
-use Rattle.machine.specs.words.Running.{HandleOk}
+use Rattle.machine.specs.words.InBytes.{mapWordIn}
+use Rattle.machine.specs.words.Running.{LaneOk, HandleOk}
 use Rattle.machine.specs.calls.Reading.{readOf, blockBytes}
 use Rattle.machine.specs.calls.Writing.{Outcome, planOf, flogStore, storeAt, laneStored, startOf, stepOf, stepsOf, writeOf}
-use Rattle.machine.specs.words.Table.{lastByte, lastWord, storeByte, storeWord, OneWord, OneRecord, afterSteps, WriteTable, StepTable, BlockIs, StartTable, ReadTable}
+use Rattle.machine.specs.words.Table.{lastByte, lastWord, storeByte, storeWord, OneWord, OneRecord, afterSteps, WriteTable, StepTable, StartTable, ReadTable}
 use Rattle.machine.proofs.stores.Stores.{in-arena}
 use Rattle.machine.proofs.invariant.Inv.{lane-same, lane-other}
 use Rattle.machine.proofs.opening.Described.{told-distance, allowed-arena}
 use Rattle.machine.proofs.stores.Kinds.{PlanOk, store-fits}
+use Rattle.machine.proofs.invariant.Held.{lanes-in}
 use Rattle.machine.proofs.invariant.Steps.{stored-more, stored-last}
 use Rattle.machine.proofs.calls.Running.{handle-ok}
 use Rattle.machine.proofs.calls.Whole.{steps-accepted, begun-ok}
 use Rattle.machine.proofs.calls.Accepted.{read-found, start-found, step-found, write-found}
-use Rattle.machine.specs.words.Records.{OneMore}
+use Rattle.machine.specs.words.Records.{Started, OneMore}
 use Rattle.machine.proofs.calls.Records.{idle-fields, started-fields, stored-fields}
 use Rattle.machine.proofs.stores.Offsets.{flog-byte, map-word}
 
 -- ---- what rule 16 gives
 
+-- the plan of a record in range
+pub plan : (g : Layout) (l : ℕ) (r : Lane) → l < g .N → LaneOk g r → PlanOk g (planOf l r)
+plan g l r u k = record {
+  lane-in = u;
+  sector-in = k .sector;
+  old-in = k .old;
+  new-in = k .block;
+  half-in = ⊎-elim (λ e. omega arith) (λ e. omega arith) (k .half);
+  sequence-in = omega (arith, k .sequence-most);
+}
+
 module _ (h : Handle) (a : List ℕ) (k : HandleOk h (length a)) where
-  layout : LayoutOk (laidOut h)
+  pub layout : LayoutOk (laidOut h)
   layout = layout-ok (h .distance) (told-distance (h .distance) (eq-eqb _ _ (k .distance))) (h .figures) (length a) (k .figures) (k .size .most)
 
   -- the lane's record is one of the list
-  listed : (l : ℕ) → l < h .figures .lanes → l < length (h .lanes)
+  pub listed : (l : ℕ) → l < h .figures .lanes → l < length (h .lanes)
   listed l u = go (decLt l (length (h .lanes)))
     where
       go : Dec (l < length (h .lanes)) → l < length (h .lanes)
@@ -56,17 +71,6 @@ module _ (h : Handle) (a : List ℕ) (k : HandleOk h (length a)) where
       go (no v) =
           let e : laneAt (h .lanes) l ≡ noLane = List·getD-eq-default (h .lanes) noLane (omega arith) in
           absurd (omega (arith, k .lanes l u .sequence-least, ap (λ (r : Lane). r .sequence .0) e))
-
-  plan : (l : ℕ) → l < h .figures .lanes → PlanOk (laidOut h) (planOf l (laneAt (h .lanes) l))
-  unfolding layoutOf
-  plan l u = let r = k .lanes l u in record {
-    lane-in = u;
-    sector-in = r .sector;
-    old-in = r .old;
-    new-in = r .block;
-    half-in = ⊎-elim (λ e. omega arith) (λ e. omega arith) (r .half);
-    sequence-in = omega (arith, r .sequence-most);
-  }
 
 -- ---- one store, and one record
 
@@ -87,11 +91,6 @@ one-record h l r P p u = record {
   changed = rw (lane-same (h .lanes) l r u) p;
   kept = lane-other (h .lanes) l r;
 }
-
--- the block of a map word
-block-is : (s w : ℕ) → BlockIs w s (blockOf s w)
-unfolding blockOf
-block-is s w = record { own = λ e. rw (eq-eqb (flagsOf w) 0 e); low = λ e. rw (ne-eqb (flagsOf w) 0 e) }
 
 -- ---- a step
 
@@ -153,7 +152,7 @@ module _ (a : List ℕ) (h : Handle) where
       let r = laneAt (h .lanes) l in
       let u = found .lane in
       let st = storeAt g (planOf l r) buffer (r .made) in
-      let fits = store-fits g (layout h a k) (planOf l r) (plan h a k l u) buffer bytes (r .made) (k .lanes l u .made) in
+      let fits = store-fits g (layout h a k) (planOf l r) (plan g l r (lanes-in d f l u) (k .lanes l u)) buffer bytes (r .made) (k .lanes l u .made) in
       let o = store-byte d f l r buffer (r .made) (k .distance) (length a) (k .figures) in
       let i = in-arena g (layout h a k) a (allowed-arena d f a (k .figures) (k .size .multiple) small) (st .place) (fits .range) in
       record {
@@ -171,12 +170,13 @@ module _ (a : List ℕ) (h : Handle) where
       let found = start-found a h l s e in
       let k = handle-ok h (length a) (found .handle) in
       let u = found .lane in
+      let r = laneAt (h .lanes) l in
       let b = mapBlock (laidOut h) a s in
+      let n = map-words .block s (mapWord (laidOut h) a s) ∙ ap (namedBlock s) (map-word (h .distance) (h .figures) (length a) (k .figures) a s) in
       record {
         arena = refl;
-        old = b;
-        old-is = rw (← map-word (h .distance) (h .figures) (length a) (k .figures) a s) (block-is s (mapWord (laidOut h) a s));
-        handle = rw e (one-record h l (startedLane (laneAt (h .lanes) l) s b) _ (started-fields _ s b) (listed h a k l u));
+        handle = rw e (one-record h l (startedLane r s b) _
+            (subst (λ (o : ℕ). Started r s o (startedLane r s b)) n (started-fields r s b)) (listed h a k l u));
       }
 
   -- ---- a read
@@ -194,12 +194,15 @@ module _ (a : List ℕ) (h : Handle) where
   read-table s buffer small e =
       let k = handle-ok h (length a) (read-found a h s buffer e .handle) in
       let w = mapWord (laidOut h) a s in
-      let m : w ≡ byteWord a (mapByte (h .figures) s) = map-word (h .distance) (h .figures) (length a) (k .figures) a s in
+      let m : w ≡ mapWordIn (h .figures) a s = map-word (h .distance) (h .figures) (length a) (k .figures) a s in
       record {
-        zeroes = λ u. let v : flagsOf w < 2 = rw m u in rw (e, ne-eqb (flagsOf w) 3 (omega arith), ne-eqb (flagsOf w) 2 (omega arith));
+        unwritten = λ u. let v : NeitherBit w = rw m u in rw (e, map-words .flags-00 s w v .reads);
+        zeroed = λ u. let v : Bit31Alone w = rw m u in rw (e, map-words .flags-10 s w v .reads);
+        not-bad = λ u. true-false (sym (map-words .rule-15-back w (rw m u)) ∙ read-found a h s buffer e .not-bad);
         bytes = λ u.
-            let v : flagsOf w ≡ 3 = rw m u in
-            rw (e, eq-eqb (flagsOf w) 3 v, ← m) (block-bytes (blockOf s w) k ∙ ap from (block-is s w .low (omega arith)));
+            let v : BothBits w = rw m u in
+            let n = map-words .flags-11 s w v in
+            rw (e, n .reads, ← m) (block-bytes (blockOf s w) k ∙ ap from (n .block));
       }
     where
       from : ℕ → List ℕ

@@ -123,7 +123,7 @@ module _ (τ : Told) (told : ToldOk τ) where
 
   -- ---- calls with openings between
 
-  held-event : (x : State) (e : Event) → SmallEvent e → HeldIn τ x → HeldIn τ (afterEvent τ x e)
+  pub held-event : (x : State) (e : Event) → SmallEvent e → HeldIn τ x → HeldIn τ (afterEvent τ x e)
   held-event x (called c) small k = held-after x c small k
   held-event x (opened work) small k = opening-cases x work (HeldIn τ) (held-open τ told (x .arena) work (held-small x k)) k
 

@@ -9,6 +9,7 @@ use lib.Dec.{ltb}
 use borrow.Author.Tests.{ltb-true, ltb-false, ne-eqb}
 use Rattle.format.specs.Sequence.{newer, successor}
 use Rattle.format.specs.MapWord.{blockOf}
+use Rattle.format.specs.Claims.{BadWord}
 use Rattle.layout.specs.Place.{Layout, LayoutOk}
 use Rattle.format.proofs.Tests.{by-bool}
 use Rattle.format.proofs.MapWord.{block-zero}
@@ -16,7 +17,7 @@ use Rattle.machine.specs.state.Lane.{idleLane}
 use Rattle.machine.specs.state.Stores.{Store, putAll}
 use Rattle.machine.specs.state.Flog.{mapWord, mapBlock, flogWord, newerHalf, newerWord, freeOf, pending}
 use Rattle.machine.specs.calls.Opening.{pendingLanes, mended, foundLane}
-use Rattle.machine.specs.words.Valid.{Readable, BadWord, Pending, blockAt, EachOnce, Settled}
+use Rattle.machine.specs.words.Valid.{Readable, Pending, blockAt, EachOnce, Settled}
 use Rattle.machine.proofs.opening.Mends.{none-mended, none-pending}
 
 pub record Fresh (g : Layout) (a : List ℕ) : Type 0 where
@@ -72,7 +73,7 @@ module _ (g : Layout) (a : List ℕ) (f : Fresh g a) where
       record { newer = omega arith; sector = omega arith; old = omega arith; new = omega arith }
 
   pub no-bad-word : (s : ℕ) → s < g .E → BadWord (g .I) (mapWord g a s) → ⊥
-  no-bad-word s u b = b .0 (rw (f .map s u))
+  no-bad-word s u b = omega (arith, f .map s u, b .0)
 
   block-at : (i : ℕ) → i < g .E + g .N → blockAt g (mapBlock g a) (freeOf g a) i ≡ i
   block-at i u =

@@ -9,7 +9,6 @@ use lib.Dec.{eqb}
 use lib.ListN.{length, drop, replicate, length-replicate}
 use borrow.Author.Tests.{eqb-true, eq-eqb, ne-eqb, not-false}
 use Rattle.words.specs.Bytes.{Small}
-use Rattle.format.specs.MapWord.{flagsOf, readingOf}
 use Rattle.layout.specs.Figures.{lengthAllowed, sizesAllowed, Allowed, freshLength, freshFigures}
 use Rattle.layout.specs.Place.{Layout, layoutOf}
 use Rattle.layout.specs.declared.Figures.{Figures}
@@ -254,7 +253,6 @@ module _ (o : Wanted) (a : List ℕ) (small : Small a) (first : Small (o .first)
         (opened-fresh (o .first) (o .second) figures a given work l (omega (arith, blocks-in)) (omega (arith, lanes-in))
         ∙ ap (λ (n : ℕ). idleLane (n + l) 1 2) sectors-in));
     map = λ s u. rw arena (sym (map-word 16 figures (length a) ok m s) ∙ map-made s u);
-    zeroes = λ s u. rw arena (ap (λ (w : ℕ). readingOf (flagsOf w)) (map-zero s u));
   }
 
 pub making-claim : MakingClaim

@@ -9,6 +9,7 @@ use borrow.Author.Tests.{ne-eqb, ltb-true, lt-ltb, not-true, not-false}
 use Rattle.words.specs.Bytes.{Small}
 use Rattle.layout.specs.Figures.{lengthAllowed}
 use Rattle.format.specs.MapWord.{badWord}
+use Rattle.format.specs.Claims.{BadWord}
 use Rattle.infoblock.specs.Info.{infoBlockOf}
 use Rattle.format.proofs.Tests.{true-false, by-bool, every-intro, every-false, some-intro, some-true}
 use Rattle.machine.specs.state.Flog.{mapWord, mapBlock}
@@ -33,7 +34,7 @@ use Rattle.machine.specs.calls.Opening.{
   wordBad,
   unsettled,
 }
-use Rattle.machine.specs.words.Valid.{Readable, BadWord, Settled, Valid, HoldsOpen, AnswersOpen}
+use Rattle.machine.specs.words.Valid.{Readable, Settled, Valid, HoldsOpen, AnswersOpen}
 use Rattle.machine.specs.claims.Opening.{OpeningAnswers}
 use Rattle.machine.proofs.rules.Rules.{first-in, asked}
 use Rattle.machine.proofs.opening.Mends.{readable-of, word-in}

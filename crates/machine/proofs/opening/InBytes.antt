@@ -11,8 +11,8 @@ use Rattle.words.specs.Bytes.{Small, byteWord}
 use Rattle.words.proofs.Laws.{getD-putWord-other}
 use Rattle.format.specs.Sequence.{successor}
 use Rattle.format.specs.Flog.{halfAt}
-use Rattle.format.specs.Claims.{HalfFrom}
-use Rattle.format.proofs.InNumbers.{flog-claim}
+use Rattle.format.specs.Claims.{namedBlock, HalfFrom}
+use Rattle.format.proofs.InNumbers.{map-words, flog-claim}
 use Rattle.format.specs.MapWord.{blockOf, mappedTo}
 use Rattle.layout.specs.Place.{Layout, layoutOf, at, inMap, inFlog}
 use Rattle.words.proofs.Bytes.{word-at}
@@ -24,7 +24,7 @@ use Rattle.machine.specs.state.Handle.{laneAt, ToldOk}
 use Rattle.machine.specs.state.Stores.{putAll}
 use Rattle.machine.specs.state.Flog.{mapWord, flogWord, newerHalf, newerWord, newerFlog, pending}
 use Rattle.machine.specs.calls.Opening.{figuresIn, layoutIn, mends, pendingLanes, mended, handleFor, openOf, cutOpenOf}
-use Rattle.machine.specs.words.InBytes.{flogByte, mapByte, newerIn, sectorIn, oldIn, newIn, sequenceIn, PendingIn, pendingBelow}
+use Rattle.machine.specs.words.InBytes.{flogByte, mapByte, mapWordIn, newerIn, sectorIn, oldIn, newIn, sequenceIn, PendingIn, pendingBelow}
 use Rattle.machine.specs.claims.Opening.{LaneAsFound, HandleAsFound, MendedFor, Mended, MendedUpTo}
 use Rattle.machine.proofs.stores.Stores.{putAll-length}
 use Rattle.machine.proofs.opening.Mends.{readable-of, pending-old, mends-take, mend-keeps}
@@ -90,9 +90,9 @@ module _ (τ : Told) (told : ToldOk τ) where
         subst (λ (o : ℕ). HalfFrom a o (halfAt a p)) (e ∙ ap (λ (h : ℕ). flogByte (figuresIn a) l h 0) (newer-bytes l)) (flog-claim .half a p)
 
     -- pending in bytes and by word numbers
-    block-bytes : (l : ℕ) → blockOf (sectorIn a l) (byteWord a (mapByte (figuresIn a) (sectorIn a l)))
+    block-bytes : (l : ℕ) → namedBlock (sectorIn a l) (mapWordIn (figuresIn a) a (sectorIn a l))
         ≡ blockOf (newerWord (layoutIn τ a) a l 0) (mapWord (layoutIn τ a) a (newerWord (layoutIn τ a) a l 0))
-    block-bytes l = rw (sector-bytes l, map-bytes a (sectorIn a l))
+    block-bytes l = rw (sector-bytes l, map-bytes a (sectorIn a l)) (sym (map-words .block _ _))
 
     of-bytes : (l : ℕ) → PendingIn a l → pending (layoutIn τ a) a l ≡ true
     of-bytes l p = of-pending (layoutIn τ a) a l (sym (block-bytes l) ∙ p ∙ sym (old-bytes l))

@@ -2,27 +2,28 @@
 -- counts has bytes exactly where one of the two is sound, and is then sound itself.
 use mathlib.Core.Path.{_≡_, refl, ap, _∙_}
 use mathlib.Core.List.{List, []}
-use mathlib.Core.Bool.{Bool, true, false, not, cond}
+use mathlib.Core.Bool.{Bool, true, false, cond}
 use Prim.Native.Nat.{ℕ, _-_}
 use native.Mathlib.Omega.{arith}
-use lib.Dec.{eqb, leb}
+use lib.Dec.{eqb}
 use lib.ListN.{length, take, drop}
-use borrow.Author.Tests.{eqb-true, eqb-false, ne-eqb, lt-ltb, leb-true, le-leb, not-true}
+use borrow.Author.Tests.{eqb-true, eqb-false, lt-ltb}
 use Rattle.words.specs.Bytes.{Small, byteWord}
 use Rattle.layout.specs.Figures.{lengthAllowed}
 use Rattle.layout.specs.Place.{Layout}
 use Rattle.layout.specs.declared.Told.{Told}
 use Rattle.layout.proofs.InBytes.{allowed-claim}
-use Rattle.format.specs.MapWord.{flagsOf, lowBits, badWord}
+use Rattle.format.specs.MapWord.{badWord}
+use Rattle.format.specs.Claims.{BadWord}
+use Rattle.format.proofs.InNumbers.{map-words}
 use Rattle.infoblock.specs.Info.{sound, countsOf, countingOf, infoBlockOf, infoAllowed, flagsAllowed}
-use Rattle.format.proofs.Tests.{and-elim}
 use Rattle.format.proofs.Below.{below-take, below-drop}
 use Rattle.infoblock.proofs.InfoBlock.{info-in, counting-main, counting-copy, counting-none}
 use Rattle.infoblock.proofs.InBytes.{fields-claim, sound-claim, unsound}
 use Rattle.machine.specs.calls.Opening.{laneReadable}
 use Rattle.layout.specs.Claims.{Length}
 use Rattle.infoblock.specs.Claims.{Sound}
-use Rattle.machine.specs.words.Valid.{InfoOk, Readable, BadWord}
+use Rattle.machine.specs.words.Valid.{InfoOk, Readable}
 
 pub length-ok : (n : ℕ) → lengthAllowed n ≡ true → Length n
 length-ok = allowed-claim .length
@@ -53,12 +54,10 @@ unfolding laneReadable
 ok-readable g a l r = rw (lt-ltb _ _ (r .newer), lt-ltb _ _ (r .sector), lt-ltb _ _ (r .old), lt-ltb _ _ (r .new))
 
 pub bad-ok : (blocks w : ℕ) → badWord blocks w ≡ true → BadWord blocks w
-bad-ok blocks w e =
-    let p = and-elim (not (eqb (flagsOf w) 0)) (leb blocks (lowBits w)) e in
-    (eqb-false _ _ (not-true _ (p .0)), leb-true _ _ (p .1))
+bad-ok = map-words .rule-7
 
 pub ok-bad : (blocks w : ℕ) → BadWord blocks w → badWord blocks w ≡ true
-ok-bad blocks w b = rw (ne-eqb (flagsOf w) 0 (b .0), le-leb _ _ (b .1))
+ok-bad = map-words .rule-7-back
 
 -- ---- rule 2
 

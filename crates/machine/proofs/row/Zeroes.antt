@@ -32,37 +32,37 @@ module _ (o : Wanted) (a work : List ℕ) (small : Small a) (first : Small (o .f
   abbrev x : State
   x = openedFrom alone ((makeOf o a) .arena) work
 
-  held : HeldIn alone x
-  held = held-open alone told-alone ((makeOf o a) .arena) work (made-small o a small first second e) (made .number work room)
+  pub made-held : HeldIn alone x
+  made-held = held-open alone told-alone ((makeOf o a) .arena) work (made-small o a small first second e) (made .number work room)
 
-  figures : x .handle .figures ≡ freshFigures (o .size) (o .sectors) (o .lanes)
-  figures = opened-figures alone told-alone ((makeOf o a) .arena) work (made .number work room) ∙ made .figures
+  pub made-figures : x .handle .figures ≡ freshFigures (o .size) (o .sectors) (o .lanes)
+  made-figures = opened-figures alone told-alone ((makeOf o a) .arena) work (made .number work room) ∙ made .figures
 
   distance : x .handle .distance ≡ 16
   distance = opened-distance alone told-alone ((makeOf o a) .arena) work (made .number work room)
 
   sector-in : (s : ℕ) → s < o .sectors → s < (laidOut (x .handle)) .E
   unfolding layoutOf freshFigures
-  sector-in s u = rw figures u
+  sector-in s u = rw made-figures u
 
   size-in : x .handle .figures .size ≡ o .size
   unfolding freshFigures
-  size-in = ap (λ (f : Figures). f .size) figures
+  size-in = ap (λ (f : Figures). f .size) made-figures
 
   content : (s : ℕ) → s < o .sectors → contentOf (x .handle .distance) (x .handle .figures) (x .arena) s ≡ holds (replicate (o .size) 0)
   content s u =
-      content-zero (x .handle .distance) (x .handle .figures) (x .arena) s (rw (distance, figures ∙ sym (made .figures), made .arena work) (map-words o a small first second e s u))
+      content-zero (x .handle .distance) (x .handle .figures) (x .arena) s (rw (distance, made-figures ∙ sym (made .figures), made .arena work) (map-words o a small first second e s u))
       ∙ ap (λ (n : ℕ). holds (replicate n 0)) size-in
 
   zero-row : (s : ℕ) → s < o .sectors → (firstRow (openedFrom alone ((makeOf o a) .arena) work)) .sector s ≡ holds (replicate (o .size) 0)
   zero-row s u =
-      first-rep alone told-alone x held (opened-idle alone told-alone ((makeOf o a) .arena) work (made .number work room)) .sector s (sector-in s u) ∙ content s u
+      first-rep alone told-alone x made-held (opened-idle alone told-alone ((makeOf o a) .arena) work (made .number work room)) .sector s (sector-in s u) ∙ content s u
 
   zero-reads : (s : ℕ) → s < o .sectors → (buffer : List ℕ) → length buffer ≡ o .size
       → readOf ((openedFrom alone ((makeOf o a) .arena) work) .arena) ((openedFrom alone ((makeOf o a) .arena) work) .handle) s buffer
       ≡ record { number = 0; buffer = replicate (o .size) 0 }
   zero-reads s u buffer n =
-      held-read alone told-alone (x .arena) (x .handle) held s buffer
+      held-read alone told-alone (x .arena) (x .handle) made-held s buffer
       ∙ ap (λ (c : Sector). readBy (x .handle .figures) c s buffer) (content s u)
       ∙ read-holds (x .handle .figures) (replicate (o .size) 0) s buffer (sectors-out (x .handle .distance) (x .handle .figures) s (sector-in s u)) (n ∙ sym size-in)
 

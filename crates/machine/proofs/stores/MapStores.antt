@@ -14,7 +14,7 @@ use Rattle.machine.specs.state.Flog.{mapBlock, flogWord}
 use Rattle.machine.proofs.stores.Stores.{Fits, Arena, stored-word, elsewhere}
 
 -- the store that maps sector s to block b
-abbrev mapStore : ℕ → ℕ → Store
+abbrev pub mapStore : ℕ → ℕ → Store
 mapStore s b = record { place = inMap s; value = mappedTo b }
 
 module _ (g : Layout) (ok : LayoutOk g) (a : List ℕ) (r : Arena g a) (s b : ℕ) (si : s < g .E) (bi : b < g .I) where

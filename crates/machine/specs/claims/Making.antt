@@ -5,7 +5,6 @@ use mathlib.Core.List.{List, [], _∷_}
 use Prim.Native.Nat.{ℕ, _+_, _*_, _≤_, _<_}
 use lib.ListN.{length, getD, take, drop, replicate}
 use Rattle.words.specs.Bytes.{Small, byteWord}
-use Rattle.format.specs.MapWord.{flagsOf, readingOf}
 use Rattle.layout.specs.Figures.{freshLength, freshFigures}
 use Rattle.layout.specs.Claims.{FreshLayout}
 use Rattle.layout.specs.Told.{alone}
@@ -13,10 +12,9 @@ use Rattle.infoblock.specs.Claims.{FreshBlock}
 use Rattle.layout.specs.declared.Figures.{Figures}
 use Rattle.machine.specs.Rules.{line}
 use Rattle.machine.specs.state.Handle.{laneAt}
-use Rattle.machine.specs.state.Flog.{mapWord}
 use Rattle.machine.specs.calls.Making.{Wanted, wrongSizes, wrongTotal, wrongIdentifier, numberMake, orderMake, makeOf}
-use Rattle.machine.specs.calls.Opening.{figuresIn, layoutIn, openOf}
-use Rattle.machine.specs.words.InBytes.{mapByte}
+use Rattle.machine.specs.calls.Opening.{figuresIn, openOf}
+use Rattle.machine.specs.words.InBytes.{mapWordIn}
 use Rattle.machine.specs.words.Records.{Idle}
 use Rattle.layout.specs.Claims.{Length, Sizes}
 use Rattle.machine.specs.words.Valid.{Valid, AnswersMake}
@@ -65,9 +63,8 @@ pub record FreshArena (o : Wanted) (a : List ℕ) : Type 0 where
   -- lane l's free block is E + l; its second half and sequence 2 come next
   pub lanes : (work : List ℕ) (l : ℕ) → o .sectors + o .lanes ≤ length work → l < o .lanes
       → Idle (o .sectors + l) 1 2 (laneAt ((openOf alone ((makeOf o a) .arena) work) .handle .lanes) l)
-  -- every sector's map word is zero, and so reads zeroes
-  pub map : (s : ℕ) → s < o .sectors → byteWord ((makeOf o a) .arena) (mapByte (freshFigures (o .size) (o .sectors) (o .lanes)) s) ≡ 0
-  pub zeroes : (s : ℕ) → s < o .sectors → readingOf (flagsOf (mapWord (layoutIn alone ((makeOf o a) .arena)) ((makeOf o a) .arena) s)) ≡ 0
+  -- every sector's map word is zero
+  pub map : (s : ℕ) → s < o .sectors → mapWordIn (freshFigures (o .size) (o .sectors) (o .lanes)) ((makeOf o a) .arena) s ≡ 0
 
 -- the smallest arena: one sector of 512 bytes and one lane
 abbrev pub smallest : Wanted

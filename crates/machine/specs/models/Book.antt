@@ -5,7 +5,7 @@ use mathlib.Core.List.{List, [], _∷_, _++_}
 use Prim.Native.Nat.{ℕ, _+_, _-_}
 use lib.Dec.{eqb, leb, ltb}
 use Rattle.format.specs.Sequence.{successor}
-use Rattle.format.specs.MapWord.{flagsOf, readingOf, mappedTo}
+use Rattle.format.specs.MapWord.{mappedTo}
 use Rattle.layout.specs.Place.{inMap}
 use Rattle.layout.specs.declared.Told.{Told}
 use Rattle.machine.specs.Rules.{answer}
@@ -46,6 +46,10 @@ unfoldable pub tallied : ℕ → List Entry → List Entry
 tallied l [] = []
 tallied l (e ∷ b) = cond (eqb (e .lane) l) (record { lane = e .lane; sector = e .sector; tally = e .tally + 1 }) e ∷ tallied l b
 
+-- a map word with bit 30 alone is that of a bad sector
+abbrev pub badBits : ℕ → Bool
+badBits w = leb 0x40000000 w && ltb w 0x80000000
+
 -- all below speaks of a first arena a that openings are told t of
 module _ (t : Told) (a : List ℕ) where
   -- in flight from the start until the tally is S/4 + 5
@@ -85,7 +89,7 @@ module _ (t : Told) (a : List ℕ) where
   bookTests b (laneIdle l) = not (laneFlies b l)
   bookTests b (sectorBusy s) = sectorFlies b s
   bookTests b (badMapWord s) = false
-  bookTests b (badSector s) = not (sectorDone b s) && eqb (readingOf (flagsOf (mapWord (layoutIn t a) a s))) 1
+  bookTests b (badSector s) = not (sectorDone b s) && badBits (mapWord (layoutIn t a) a s)
 
   unfoldable pub bookNumber : List Entry → Call → ℕ
   bookNumber b c = answer number (bookTests b) (order c)

@@ -6,7 +6,7 @@ use Prim.Native.Nat.{ℕ, zero, suc, _+_, _*_}
 use lib.Dec.{eqb}
 use Rattle.words.specs.Bytes.{byteWord}
 use Rattle.format.specs.Sequence.{newer}
-use Rattle.format.specs.MapWord.{blockOf}
+use Rattle.format.specs.Claims.{namedBlock}
 use Rattle.layout.specs.declared.Figures.{Figures}
 use Rattle.machine.specs.calls.Opening.{figuresIn}
 
@@ -17,6 +17,10 @@ flogByte f l h k = f .flogoff + 64 * l + 16 * h + 4 * k
 -- the byte at which the map word of sector s starts
 abbrev pub mapByte : Figures → ℕ → ℕ
 mapByte f s = f .mapoff + 4 * s
+
+-- the map word of sector s
+abbrev pub mapWordIn : Figures → List ℕ → ℕ → ℕ
+mapWordIn f a s = byteWord a (mapByte f s)
 
 -- which half of lane l is the newer, by the two sequences
 unfoldable pub newerIn : List ℕ → ℕ → ℕ
@@ -37,7 +41,7 @@ sequenceIn a l = byteWord a (flogByte (figuresIn a) l (newerIn a l) 3)
 
 -- the block of map[sector]
 abbrev pub mappedIn : List ℕ → ℕ → ℕ
-mappedIn a l = blockOf (sectorIn a l) (byteWord a (mapByte (figuresIn a) (sectorIn a l)))
+mappedIn a l = namedBlock (sectorIn a l) (mapWordIn (figuresIn a) a (sectorIn a l))
 
 -- a lane is pending if that equals old
 abbrev pub PendingIn : List ℕ → ℕ → Type 0

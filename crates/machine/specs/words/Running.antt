@@ -4,7 +4,7 @@ use mathlib.Core.Logic.{_≢_, _⊎_}
 use mathlib.Core.List.{List}
 use Prim.Native.Nat.{ℕ, _+_, _≤_, _<_}
 use lib.ListN.{length}
-use Rattle.format.specs.MapWord.{flagsOf}
+use Rattle.format.specs.Claims.{Bit30Alone, BadWord}
 use Rattle.layout.specs.Figures.{Allowed}
 use Rattle.layout.specs.Place.{Layout}
 use Rattle.machine.specs.declared.lane.Lane.{Lane}
@@ -27,7 +27,6 @@ use Rattle.machine.specs.calls.Order.{
 use Rattle.machine.specs.state.Handle.{Handle, laneAt, laidOut}
 use Rattle.machine.specs.state.Flog.{mapWord}
 use Rattle.layout.specs.Claims.{Length}
-use Rattle.machine.specs.words.Valid.{BadWord}
 
 -- a lane's record in range, idle or not
 pub record LaneOk (g : Layout) (r : Lane) : Type 0 where
@@ -52,7 +51,7 @@ pub record HandleOk (h : Handle) (n : ℕ) : Type 0 where
 abbrev pub InFlight : List Lane → ℕ → ℕ → Type 0
 InFlight lanes n s = (l : ℕ) × (l < n) × ((laneAt lanes l) .busy ≢ 0) × ((laneAt lanes l) .sector .0 ≡ s)
 
--- each rule of the table in words, of an arena and a handle; 15 is for flags 10
+-- each rule of the table in words, of an arena and a handle; 15 is for bit 30 alone
 abbrev pub Holds : List ℕ → Handle → Rule → Type 0
 Holds a h badHandle = HandleOk h (length a) → ⊥
 Holds a h (noSuchSector s) = h .figures .sectors ≤ s
@@ -62,7 +61,7 @@ Holds a h (laneBusy l) = (laneAt (h .lanes) l) .busy ≢ 0
 Holds a h (laneIdle l) = (laneAt (h .lanes) l) .busy ≡ 0
 Holds a h (sectorBusy s) = InFlight (h .lanes) (h .figures .lanes) s
 Holds a h (badMapWord s) = BadWord (h .figures .blocks) (mapWord (laidOut h) a s)
-Holds a h (badSector s) = flagsOf (mapWord (laidOut h) a s) ≡ 2
+Holds a h (badSector s) = Bit30Alone (mapWord (laidOut h) a s)
 
 -- n is the answer of a call by its line of the table
 abbrev pub Answers : List ℕ → Handle → Call → ℕ → Type 0

@@ -8,14 +8,14 @@ use lib.Dec.{ltb}
 use lib.ListN.{length, getD, take, drop, replicate}
 use Rattle.words.specs.Bytes.{byteWord}
 use Rattle.format.specs.Sequence.{successor}
-use Rattle.format.specs.MapWord.{flagsOf, lowBits}
+use Rattle.format.specs.Claims.{NeitherBit, Bit30Alone, Bit31Alone, BothBits, namedBlock}
 use Rattle.layout.specs.declared.Figures.{Figures}
 use Rattle.machine.specs.declared.lane.Lane.{Lane}
 use Rattle.machine.specs.state.Handle.{Handle, laneAt}
 use Rattle.machine.specs.calls.Reading.{Read}
 use Rattle.machine.specs.calls.Writing.{Outcome, startOf, stepOf}
 use Rattle.machine.specs.words.Records.{Idle, Started, OneMore}
-use Rattle.machine.specs.words.InBytes.{mapByte}
+use Rattle.machine.specs.words.InBytes.{mapWordIn}
 
 -- ---- where store k of a write begins, and its word
 
@@ -66,17 +66,10 @@ pub record StepTable (a : List ℕ) (h : Handle) (l : ℕ) (buffer : List ℕ) (
   -- after the last the lane is idle, old is its free block, and its next half and sequence move on
   pub last : r .made + 1 ≡ h .figures .size / 4 + 5 → OneRecord h (o .handle) l (Idle (r .old .0) (1 - r .half) (successor (r .sequence .0)))
 
--- the block of a sector's map word: its own number for flags 00, else the low bits
-pub record BlockIs (w s b : ℕ) : Type 0 where
-  pub own : flagsOf w ≡ 0 → b ≡ s
-  pub low : flagsOf w ≢ 0 → b ≡ lowBits w
-
 -- an accepted start remembers the sector, the map's block (old) and the lane's free block (new), and stores nothing
 pub record StartTable (a : List ℕ) (h : Handle) (l s : ℕ) (r : Lane) (o : Outcome) : Type 0 where
   pub arena : o .arena ≡ a
-  pub old : ℕ
-  pub old-is : BlockIs (byteWord a (mapByte (h .figures) s)) s old
-  pub handle : OneRecord h (o .handle) l (Started r s old)
+  pub handle : OneRecord h (o .handle) l (Started r s (namedBlock s (mapWordIn (h .figures) a s)))
 
 -- n steps on one lane with one buffer, each given what the last one left
 unfoldable pub afterSteps : ℕ → List ℕ → Handle → ℕ → List ℕ → Outcome
@@ -90,8 +83,11 @@ pub record WriteTable (a : List ℕ) (h : Handle) (l s : ℕ) (buffer : List ℕ
   pub arena : o .arena ≡ (afterSteps (h .figures .size / 4 + 5) a ((startOf a h l s) .handle) l buffer) .arena
   pub handle : o .handle ≡ (afterSteps (h .figures .size / 4 + 5) a ((startOf a h l s) .handle) l buffer) .handle
 
--- an accepted read gives zeroes, or the bytes of the block
+-- an accepted read goes by the sector's map word: zeroes where it has neither bit or bit 31 alone, the bytes of the block in its low bits
+-- where it has both; with bit 30 alone it is never accepted
 pub record ReadTable (a : List ℕ) (h : Handle) (s : ℕ) (r : Read) : Type 0 where
-  pub zeroes : flagsOf (byteWord a (mapByte (h .figures) s)) < 2 → r .buffer ≡ replicate (h .figures .size) 0
-  pub bytes : flagsOf (byteWord a (mapByte (h .figures) s)) ≡ 3
-      → r .buffer ≡ take (h .figures .size) (drop (h .figures .dataoff + lowBits (byteWord a (mapByte (h .figures) s)) * h .figures .internal) a)
+  pub unwritten : NeitherBit (mapWordIn (h .figures) a s) → r .buffer ≡ replicate (h .figures .size) 0
+  pub zeroed : Bit31Alone (mapWordIn (h .figures) a s) → r .buffer ≡ replicate (h .figures .size) 0
+  pub not-bad : Bit30Alone (mapWordIn (h .figures) a s) → ⊥
+  pub bytes : BothBits (mapWordIn (h .figures) a s)
+      → r .buffer ≡ take (h .figures .size) (drop (h .figures .dataoff + (mapWordIn (h .figures) a s - 0xC0000000) * h .figures .internal) a)

@@ -3,11 +3,11 @@ use mathlib.Core.Path.{_≡_}
 use mathlib.Core.Logic.{_≢_}
 use mathlib.Core.Bool.{cond}
 use mathlib.Core.List.{List}
-use Prim.Native.Nat.{ℕ, _+_, _-_, _≤_, _<_}
+use Prim.Native.Nat.{ℕ, _+_, _-_, _<_}
 use lib.Dec.{ltb}
 use lib.ListN.{length, take, drop}
 use Rattle.words.specs.Bytes.{byteWord}
-use Rattle.format.specs.MapWord.{flagsOf, lowBits}
+use Rattle.format.specs.Claims.{BadWord}
 use Rattle.layout.specs.Figures.{Allowed, freshLength}
 use Rattle.layout.specs.Claims.{Length, Sizes}
 use Rattle.layout.specs.Place.{Layout}
@@ -43,10 +43,6 @@ pub record Readable (g : Layout) (a : List ℕ) (l : ℕ) : Type 0 where
   pub sector : newerWord g a l 0 < g .E
   pub old : newerWord g a l 1 < g .I
   pub new : newerWord g a l 2 < g .I
-
--- rule 7: flags other than 00, and low bits of I or more
-abbrev pub BadWord : ℕ → ℕ → Type 0
-BadWord blocks w = (flagsOf w ≢ 0) × (blocks ≤ lowBits w)
 
 -- the block of map[sector] equals old
 abbrev pub Pending : Layout → List ℕ → ℕ → Type 0

@@ -38,9 +38,10 @@ pub fn read(arena: &[u8], handle: &Handle, sector: u32, buffer: &mut [u8]) -> Re
     require(sector < handle.sectors, Answer::NoSuchSector)?;
     require(buffer.len() == handle.size as usize, Answer::WrongBuffer)?;
     let word = map_word(arena, handle, sector)?;
+    // Bit 31 is Zero and bit 30 Error: one alone reads zeroes, or is a bad sector; both are data.
     match word >> 30 {
         3 => buffer.copy_from_slice(&arena[block_at(handle, block_of(sector, word))..][..handle.size as usize]),
-        2 => return Err(Answer::BadSector),
+        1 => return Err(Answer::BadSector),
         _ => buffer.fill(0),
     }
     Ok(())

@@ -90,13 +90,13 @@ fn sectors(text: &mut String, arena: &Arena, handle: &Handle) {
     }
 }
 
-/// What a map word says of its sector: how it reads, and its block.
+/// What a map word says of its sector: how it reads, by bits 31 (Zero) and 30 (Error), and its block.
 fn state(sector: u32, word: u32) -> (&'static str, u32) {
     let low = word & 0x3FFF_FFFF;
     match word >> 30 {
         0 => ("zeroes", sector),
-        1 => ("zeroes", low),
-        2 => ("bad", low),
+        1 => ("bad", low),
+        2 => ("zeroes", low),
         _ => ("data", low),
     }
 }
@@ -108,8 +108,8 @@ mod tests {
     #[test]
     fn map_words_are_read_as_the_table_says() {
         assert_eq!(state(7, 0x0000_0005), ("zeroes", 7));
-        assert_eq!(state(7, 0x4000_0005), ("zeroes", 5));
-        assert_eq!(state(7, 0x8000_0005), ("bad", 5));
+        assert_eq!(state(7, 0x4000_0005), ("bad", 5));
+        assert_eq!(state(7, 0x8000_0005), ("zeroes", 5));
         assert_eq!(state(7, 0xC000_0005), ("data", 5));
     }
 }

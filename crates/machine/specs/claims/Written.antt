@@ -1,0 +1,43 @@
+-- The claim about what the calls leave in the map: each word is what it was, or flags 11 and a block, and making leaves zeroes. So the
+-- flags that we write are 00 and 11 only.
+use mathlib.Core.Path.{_≡_}
+use mathlib.Core.Logic.{_⊎_}
+use mathlib.Core.List.{List}
+use Prim.Native.Nat.{ℕ, _+_, _≤_, _<_}
+use lib.ListN.{length}
+use Rattle.words.specs.Bytes.{Small}
+use Rattle.layout.specs.Figures.{freshFigures}
+use Rattle.layout.specs.Told.{alone}
+use Rattle.layout.specs.declared.Figures.{Figures}
+use Rattle.machine.specs.state.Handle.{Handle}
+use Rattle.machine.specs.calls.Order.{Call}
+use Rattle.machine.specs.calls.Making.{Wanted, makeOf}
+use Rattle.machine.specs.calls.Opening.{figuresIn, openOf, cutOpenOf}
+use Rattle.machine.specs.calls.History.{after, openedFrom, SmallEvents}
+use Rattle.machine.specs.calls.Asides.{Happening, latestOf, AllHarmless}
+use Rattle.machine.specs.words.InBytes.{mapWordIn}
+use Rattle.machine.specs.claims.DemandTwo.{leaves}
+
+-- the map word is what it was, or 0xC0000000 + b with b < I
+abbrev pub KeptOrMapped : ℕ → ℕ → ℕ → Type 0
+KeptOrMapped blocks was is = (is ≡ was) ⊎ ((b : ℕ) × (b < blocks) × (is ≡ 0xC0000000 + b))
+
+-- so is every sector's
+abbrev pub MapKept : Figures → List ℕ → List ℕ → Type 0
+MapKept f a after = (s : ℕ) → s < f .sectors → KeptOrMapped (f .blocks) (mapWordIn f a s) (mapWordIn f after s)
+
+pub record WrittenWords : Type 0 where
+  -- read, start, step and whole write, accepted or refused, on any bytes and with any handle
+  pub calls : (a : List ℕ) (h : Handle) (c : Call) → Small a → MapKept (h .figures) a ((after (record { arena = a; handle = h }) c) .arena)
+  -- openings and cut openings likewise
+  pub opening : (a work : List ℕ) → Small a → MapKept (figuresIn a) a ((openOf alone a work) .arena)
+  pub cut-opening : (a work : List ℕ) (k : ℕ) → Small a → MapKept (figuresIn a) a ((cutOpenOf alone a work k) .arena)
+  -- after making every map word is 0
+  pub making : (o : Wanted) (a : List ℕ) → Small a → Small (o .first) → Small (o .second) → (makeOf o a) .number ≡ 0
+      → (s : ℕ) → s < o .sectors → mapWordIn (freshFigures (o .size) (o .sectors) (o .lanes)) ((makeOf o a) .arena) s ≡ 0
+  -- so in an arena that we made, after any history, every map word is 0 or 0xC0000000 + b with b < I
+  pub ours : (o : Wanted) (a work : List ℕ) (hs : List Happening) → Small a → Small (o .first) → Small (o .second) → (makeOf o a) .number ≡ 0
+      → o .sectors + o .lanes ≤ length work → SmallEvents (latestOf hs) → AllHarmless alone (openedFrom alone ((makeOf o a) .arena) work) hs
+      → (s : ℕ) → s < o .sectors
+      → KeptOrMapped (o .sectors + o .lanes) 0
+      (mapWordIn (freshFigures (o .size) (o .sectors) (o .lanes)) ((leaves alone ((makeOf o a) .arena) work hs) .arena) s)
