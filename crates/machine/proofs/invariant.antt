@@ -6,3 +6,4 @@ pub mod Inv
 pub mod Lanes
 pub mod Steps
 pub mod Asides
+pub mod MapWords

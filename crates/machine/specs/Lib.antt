@@ -1,6 +1,7 @@
 -- A guide from document 01 to the files.
 --   The lie of an arena: crates layout and infoblock; what making leaves is calls/Making, claimed in claims/Making.
---   Map words and flog pairs: crate format; what an arena's map and flog say is state/Flog, in bytes words/InBytes.
+--   Map words and flog pairs: crate format; what an arena's map and flog say is state/Flog, in bytes words/InBytes; what the calls leave in
+--     the map is claimed in claims/Written.
 --   Opening: calls/Opening; a valid arena in words is words/Valid; claimed in claims/Opening.
 --   A write, store by store: state/Lane, state/Stores and calls/Writing; in bytes words/Records and words/Table, claimed in claims/DemandTwo.
 --   The list in demand 3: calls/History and models/Book, claimed in claims/DemandThree; calls beside it are calls/Asides.

@@ -57,6 +57,7 @@ use Rattle.machine.proofs.book.SimRun.{sim-start}
 use Rattle.machine.proofs.book.AfterCut.{after-cut}
 use Rattle.machine.proofs.exhibit.Premise.{Goes, orderly-premise, orderly-sim}
 use Rattle.machine.proofs.exhibit.LentBytes.{LendsIn, lent-one}
+use Rattle.machine.proofs.exhibit.Marked.{marked-is, read-by-flags}
 use Rattle.machine.proofs.exhibit.Book.{together, further, onward, both, goes-finished, goes-together, then-refused, goes-all, one-last}
 use Rattle.layout.specs.Told.{alone}
 use Rattle.machine.proofs.opening.Described.{told-alone}
@@ -287,4 +288,6 @@ exhibited = record {
   tallies = tallies exhibitFound exhibitWork exhibitBytes (replicate 512 0) given;
   all-finished = ran-finished exhibitFound exhibitWork exhibitBytes (replicate 512 0) given .book;
   mended = mended exhibitFound exhibitWork exhibitBytes (replicate 512 0) given;
+  marked = rw (marked-is exhibitFound)
+      (read-by-flags exhibitFound exhibitWork (given .small) (given .opens) (given .same) (given .figures) (given .unwritten) (given .room));
 }

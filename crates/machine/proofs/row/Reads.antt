@@ -1,5 +1,5 @@
 -- A read through a good handle goes by what the sector holds and by the handle's figures alone: rules 16 and 7 never apply.
-use mathlib.Core.Path.{_≡_, refl, sym, ap, _∙_}
+use mathlib.Core.Path.{_≡_, sym, ap, _∙_}
 use mathlib.Core.List.{List}
 use Prim.Native.Nat.{ℕ, _<_}
 use lib.Dec.{eqb, leb}
@@ -28,11 +28,16 @@ pub read-holds : (f : Figures) (bytes : List ℕ) (s : ℕ) (buffer : List ℕ) 
 unfolding rowRead rowNumber answer
 read-holds f bytes s buffer u size = rw (lt-leb (f .sectors) s u, eq-eqb (length buffer) (f .size) size)
 
+-- a bad sector is refused, and the buffer left
+pub read-bad : (f : Figures) (s : ℕ) (buffer : List ℕ) → s < f .sectors → length buffer ≡ f .size
+    → readBy f bad s buffer ≡ record { number = 15; buffer = buffer }
+unfolding rowRead rowNumber answer
+read-bad f s buffer u size = rw (lt-leb (f .sectors) s u, eq-eqb (length buffer) (f .size) size)
+
 -- a read into zeroes finds what the sector holds
 pub read-found : (f : Figures) (c : Sector) (s : ℕ) → s < f .sectors → foundSector (readBy f c s (replicate (f .size) 0)) ≡ c
-unfolding rowRead rowNumber answer
 read-found f (holds bytes) s u = ap foundSector (read-holds f bytes s (replicate (f .size) 0) u (length-replicate (f .size) 0))
-read-found f bad s u = rw (lt-leb (f .sectors) s u, length-replicate {A = ℕ} (f .size) 0, eq-eqb (f .size) (f .size) refl)
+read-found f bad s u = ap foundSector (read-bad f s (replicate (f .size) 0) u (length-replicate (f .size) 0))
 
 -- a sector past the last holds nothing
 pub read-past : (f : Figures) (c d : Sector) (s : ℕ) (buffer : List ℕ) → (s < f .sectors → c ≡ d) → readBy f c s buffer ≡ readBy f d s buffer

@@ -1,14 +1,16 @@
 -- A run that the claims speak of: two writes interleaved, of which one is unfinished and one lacks only its map word, a refused start and
--- a whole write, on the made arena of case 9.
+-- a whole write, on the made arena of case 9; and that arena with the flags of another driver.
 use mathlib.Core.Path.{_≡_}
 use mathlib.Core.List.{List, [], _∷_, _++_, map}
 use Prim.Native.Nat.{ℕ, _+_}
 use lib.ListN.{length, replicate}
+use Rattle.words.specs.Word.{putWord}
 use Rattle.words.specs.Bytes.{Small}
 use Rattle.layout.specs.Told.{alone}
 use Rattle.machine.specs.state.Handle.{noHandle}
 use Rattle.machine.specs.calls.Making.{Wanted, makeOf}
 use Rattle.machine.specs.calls.Opening.{figuresIn, openOf}
+use Rattle.machine.specs.calls.Reading.{readOf}
 use Rattle.machine.specs.calls.History.{Call, read, start, step, write, State, run, reply, called, opened, openedFrom, SmallEvents}
 use Rattle.machine.specs.calls.Asides.{Happening, latest, aside, shortened, latestOf, AllHarmless}
 use Rattle.machine.specs.models.Row.{OneBuffer, firstRow}
@@ -48,6 +50,18 @@ finishedCalls = interleaved ++ (step 0 (exhibitBytes 0) ∷ replicate 132 (step 
 abbrev pub exhibitHistory : List Happening
 exhibitHistory = aside noHandle (step 0 (exhibitBytes 0)) ∷ shortened [] 1 ∷ map latest (map called exhibitCalls ++ (opened exhibitWork ∷ []))
 
+-- the same arena with map words of another driver: bit 31 alone at sector 5 (byte 36,884), bit 30 alone at sector 6 (byte 36,888)
+abbrev pub exhibitMarked : List ℕ
+exhibitMarked = putWord (putWord exhibitFound 9221 0x80000005) 9222 0x40000006
+
+-- it opens, sector 5 reads zeroes, and sector 6 is bad
+pub record ReadByFlags (a work : List ℕ) : Type 0 where
+  pub opens : (openOf alone a work) .number ≡ 0
+  pub zeroes : (buffer : List ℕ) → length buffer ≡ 512
+      → readOf ((openOf alone a work) .arena) ((openOf alone a work) .handle) 5 buffer ≡ record { number = 0; buffer = replicate 512 0 }
+  pub bad-sector : (buffer : List ℕ) → length buffer ≡ 512
+      → readOf ((openOf alone a work) .arena) ((openOf alone a work) .handle) 6 buffer ≡ record { number = 15; buffer = buffer }
+
 pub record Exhibited : Type 0 where
   -- the premises of demand 2
   pub small : Small exhibitFound
@@ -67,3 +81,5 @@ pub record Exhibited : Type 0 where
       ≡ record { lane = 1; sector = 8; tally = 133 } ∷ record { lane = 0; sector = 7; tally = 133 } ∷ []
   -- cut where one lacks only its map word and opened, one write is mended
   pub mended : (openOf alone ((run exhibitState exhibitCalls) .arena) exhibitWork) .mended ≡ 1
+  -- flags that no call of ours stores
+  pub marked : ReadByFlags exhibitMarked exhibitWork
