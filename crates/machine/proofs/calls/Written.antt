@@ -11,6 +11,7 @@ use lib.Dec.{eqb}
 use lib.ListN.{length}
 use borrow.Author.Tests.{eqb-true}
 use Rattle.words.specs.Bytes.{Small}
+use Rattle.format.specs.MapWord.{mappedTo}
 use Rattle.format.proofs.Tests.{true-false, by-bool}
 use Rattle.layout.specs.Figures.{Allowed, freshFigures}
 use Rattle.layout.specs.Place.{Layout, LayoutOk, layoutOf, inData, inMap, inFlog}
@@ -31,9 +32,9 @@ use Rattle.machine.specs.words.InBytes.{mapWordIn}
 use Rattle.machine.specs.words.Running.{HandleOk}
 use Rattle.machine.specs.claims.DemandTwo.{leaves}
 use Rattle.machine.specs.claims.Written.{KeptOrMapped, MapKept, WrittenWords}
-use Rattle.machine.proofs.stores.Stores.{Arena, elsewhere, stored-word, putAll-arena}
+use Rattle.machine.proofs.stores.Stores.{Arena, elsewhere, putAll-arena}
 use Rattle.machine.proofs.stores.Kinds.{Kind, isData, isLog, isMap, kind, PlanOk, first-more}
-use Rattle.machine.proofs.stores.MapStores.{mapStore, map-fits}
+use Rattle.machine.proofs.stores.MapStores.{mapStore, word-other, word-here, map-fits}
 use Rattle.machine.proofs.stores.Offsets.{map-word}
 use Rattle.machine.proofs.opening.Described.{told-alone, allowed-arena, described-figures, described-layout, described-arena}
 use Rattle.machine.proofs.opening.Opens.{Opens, open-zero, lanes-pass}
@@ -71,8 +72,8 @@ module _ (g : Layout) (ok : LayoutOk g) where
   mapped-kept a r t b ti bi s u = go (ℕ-discrete s t)
     where
       go : Dec (s ≡ t) → KeptOrMapped (g .I) (mapWord g a s) (mapWord g (stored g (mapStore t b) a) s)
-      go (yes e) = inr (b, bi, rw e (stored-word g ok a (mapStore t b) r (map-fits g ok a r t b ti bi)))
-      go (no n) = inl (elsewhere g ok a (inMap t) (inMap s) _ ti u (λ e. n (cc)))
+      go (yes e) = inr (b, bi, rw e (word-here g ok a t (mappedTo b) ti r (map-fits g ok a r t b ti bi .small)))
+      go (no n) = inl (word-other g ok a t (mappedTo b) ti s u n)
 
   -- a store of a write
   store-kept : (a : List ℕ) → Arena g a → (p : Plan) → PlanOk g p → (bytes : List ℕ) (k : ℕ) → k < g .W + 5 → Kept a (stored g (storeAt g p bytes k) a)

@@ -1,7 +1,6 @@
 -- An arena with the map words of another driver, which no call of ours stores: the words name the blocks that the sectors had, so it opens,
 -- and its sectors read by their flags.
 use mathlib.Core.Path.{_≡_, refl, _∙_}
-use mathlib.Core.Logic.{_≢_}
 use mathlib.Core.List.{List}
 use mathlib.Core.Bool.{false}
 use Prim.Native.Nat.{ℕ, _≤_, _<_}
@@ -11,7 +10,7 @@ use Rattle.words.specs.Word.{putWord}
 use Rattle.words.specs.Bytes.{Small}
 use Rattle.format.specs.MapWord.{blockOf}
 use Rattle.layout.specs.Figures.{freshFigures}
-use Rattle.layout.specs.Place.{Layout, layoutOf, inMap}
+use Rattle.layout.specs.Place.{Layout, layoutOf}
 use Rattle.layout.specs.Told.{alone}
 use Rattle.layout.specs.declared.Figures.{Figures}
 use Rattle.machine.specs.declared.lane.Lane.{Lane}
@@ -24,13 +23,13 @@ use Rattle.machine.specs.calls.Reading.{readOf}
 use Rattle.machine.specs.calls.History.{State, openedFrom}
 use Rattle.machine.specs.models.Row.{Sector, holds, bad}
 use Rattle.machine.specs.claims.Exhibit.{ReadByFlags}
-use Rattle.machine.proofs.stores.Stores.{elsewhere, stored-word}
+use Rattle.machine.proofs.stores.MapStores.{wordStore, word-other, word-here}
 use Rattle.machine.proofs.opening.Described.{told-alone}
 use Rattle.machine.proofs.opening.Opens.{opened-distance, opened-figures, opened-idle}
 use Rattle.machine.proofs.invariant.Good.{Good, good-open, good-number, idle-arena}
 use Rattle.machine.proofs.invariant.Held.{held-open, lanes-out}
 use Rattle.machine.proofs.invariant.Histories.{HeldIn}
-use Rattle.machine.proofs.invariant.MapWords.{wordStore, word-good}
+use Rattle.machine.proofs.invariant.MapWords.{word-good}
 use Rattle.machine.proofs.calls.Running.{word-idle}
 use Rattle.machine.proofs.row.Contents.{contentOf}
 use Rattle.machine.proofs.row.Reads.{readBy, held-read, read-holds, read-bad}
@@ -44,9 +43,6 @@ g = layoutOf 16 f
 in-map : (s : ℕ) → s < 60 → s < g .E
 unfolding layoutOf freshFigures
 in-map s u = u
-
-apart : (s t : ℕ) → s ≢ t → inMap s ≢ inMap t
-apart s t n e = n (cc)
 
 -- the arena with bit 31 alone at sector 5, and with bit 30 alone at sector 6
 abbrev zeroed-5 : List ℕ → List ℕ
@@ -77,8 +73,7 @@ module _ (a work : List ℕ) (small : Small a) (opens : (openOf alone a work) .n
   good-5 = word-good alone told-alone a 16 f lanes good 5 0x80000005 (in-map 5 (omega arith)) (omega arith) (rw (word-0 5 (omega arith)))
 
   was-6 : mapWord g (zeroed-5 a) 6 ≡ 0
-  was-6 = elsewhere g (good .inv .ok) a (inMap 5) (inMap 6) _ (in-map 5 (omega arith)) (in-map 6 (omega arith)) (apart 6 5 (λ e. omega arith))
-      ∙ word-0 6 (omega arith)
+  was-6 = word-other g (good .inv .ok) a 5 0x80000005 (in-map 5 (omega arith)) 6 (in-map 6 (omega arith)) (λ e. omega arith) ∙ word-0 6 (omega arith)
 
   good-6 : Good alone (marked a) 16 f lanes
   unfolding blockOf
@@ -114,15 +109,15 @@ module _ (a work : List ℕ) (small : Small a) (opens : (openOf alone a work) .n
       ∙ rw (opened-distance alone told-alone (marked a) work number, opened-figures alone told-alone (marked a) work number ∙ good-6 .figures, arena, e)
 
   word-5 : mapWord g (marked a) 5 ≡ 0x80000005
-  word-5 = elsewhere g (good-5 .inv .ok) (zeroed-5 a) (inMap 6) (inMap 5) _ (in-map 6 (omega arith)) (in-map 5 (omega arith)) (apart 5 6 (λ e. omega arith))
-      ∙ stored-word g (good .inv .ok) a (wordStore 5 0x80000005) (good .inv .arena) (record { range = in-map 5 (omega arith); small = omega arith })
+  word-5 = word-other g (good-5 .inv .ok) (zeroed-5 a) 6 0x40000006 (in-map 6 (omega arith)) 5 (in-map 5 (omega arith)) (λ e. omega arith)
+      ∙ word-here g (good .inv .ok) a 5 0x80000005 (in-map 5 (omega arith)) (good .inv .arena) (omega arith)
+
+  word-6 : mapWord g (marked a) 6 ≡ 0x40000006
+  word-6 = word-here g (good-5 .inv .ok) (zeroed-5 a) 6 0x40000006 (in-map 6 (omega arith)) (good-5 .inv .arena) (omega arith)
 
   zeroes : (buffer : List ℕ) → length buffer ≡ 512 → readOf (x .arena) (x .handle) 5 buffer ≡ record { number = 0; buffer = replicate 512 0 }
   unfolding contentOf freshFigures
   zeroes buffer n = reads 5 (holds (replicate 512 0)) (rw word-5) buffer ∙ read-holds f (replicate 512 0) 5 buffer (omega arith) n
-
-  word-6 : mapWord g (marked a) 6 ≡ 0x40000006
-  word-6 = stored-word g (good-5 .inv .ok) (zeroed-5 a) (wordStore 6 0x40000006) (good-5 .inv .arena) (record { range = in-map 6 (omega arith); small = omega arith })
 
   bad-sector : (buffer : List ℕ) → length buffer ≡ 512 → readOf (x .arena) (x .handle) 6 buffer ≡ record { number = 15; buffer = buffer }
   unfolding contentOf freshFigures

@@ -4,22 +4,18 @@ use mathlib.Core.List.{List}
 use Prim.Native.Nat.{ℕ, _<_}
 use native.Mathlib.Decide.{ℕ-discrete}
 use Rattle.format.specs.MapWord.{blockOf}
-use Rattle.format.proofs.Tests.{true-false}
-use Rattle.layout.specs.Place.{Layout, layoutOf, inMap, inFlog}
+use Rattle.layout.specs.Place.{Layout, layoutOf}
 use Rattle.layout.specs.declared.Figures.{Figures}
 use Rattle.layout.specs.declared.Told.{Told}
 use Rattle.machine.specs.declared.lane.Lane.{Lane}
 use Rattle.machine.specs.state.Handle.{laneAt, ToldOk}
-use Rattle.machine.specs.state.Stores.{Store, stored}
-use Rattle.machine.specs.state.Flog.{mapBlock, flogWord}
+use Rattle.machine.specs.state.Stores.{stored}
+use Rattle.machine.specs.state.Flog.{mapBlock}
 use Rattle.machine.proofs.stores.Once.{once-same}
-use Rattle.machine.proofs.stores.Stores.{elsewhere, stored-word, stored-arena}
+use Rattle.machine.proofs.stores.Stores.{stored-arena}
+use Rattle.machine.proofs.stores.MapStores.{wordStore, word-flog, word-other, word-here}
 use Rattle.machine.proofs.invariant.Inv.{Inv, lane-frame}
 use Rattle.machine.proofs.invariant.Good.{Good, good-stored}
-
--- the store of map word w for sector s
-abbrev pub wordStore : ℕ → ℕ → Store
-wordStore s w = record { place = inMap s; value = w }
 
 module _ (g : Layout) (a : List ℕ) (lanes : List Lane) (i : Inv g a lanes) (s w : ℕ) (u : s < g .E) (small : w < 4294967296)
     (same : blockOf s w ≡ mapBlock g a s) where
@@ -27,18 +23,15 @@ module _ (g : Layout) (a : List ℕ) (lanes : List Lane) (i : Inv g a lanes) (s 
   block-same t v = go (ℕ-discrete t s)
     where
       go : Dec (t ≡ s) → mapBlock g (stored g (wordStore s w) a) t ≡ mapBlock g a t
-      go (yes e) = rw e (ap (blockOf s) (stored-word g (i .ok) a (wordStore s w) (i .arena) (record { range = u; small = small })) ∙ same)
-      go (no n) = ap (blockOf t) (elsewhere g (i .ok) a (inMap s) (inMap t) w u v (λ e. n (cc)))
-
-  flog-same : (l : ℕ) → l < g .N → (h k : ℕ) → h < 2 → k < 4 → flogWord g (stored g (wordStore s w) a) l h k ≡ flogWord g a l h k
-  flog-same l v h k c d = elsewhere g (i .ok) a (inMap s) (inFlog l h k) w u (v, c, d) (λ e. true-false (cc))
+      go (yes e) = rw e (ap (blockOf s) (word-here g (i .ok) a s w u (i .arena) small) ∙ same)
+      go (no n) = ap (blockOf t) (word-other g (i .ok) a s w u t v n)
 
   word-inv : Inv g (stored g (wordStore s w) a) lanes
   word-inv = record {
     ok = i .ok;
     arena = stored-arena g (i .ok) a (wordStore s w) (i .arena);
     long = i .long;
-    lane = λ l v. lane-frame g a (stored g (wordStore s w) a) l (flog-same l v) (laneAt lanes l)
+    lane = λ l v. lane-frame g a (stored g (wordStore s w) a) l (λ h k. word-flog g (i .ok) a s w u l h k v) (laneAt lanes l)
         (λ _. block-same ((laneAt lanes l) .sector .0) (i .lane l v .sector-in)) (i .lane l v);
     apart = i .apart;
     once = once-same _ _ _ _ _ _ _ block-same (λ l _. refl) (i .once);

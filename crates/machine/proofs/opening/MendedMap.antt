@@ -19,8 +19,8 @@ use Rattle.machine.specs.state.Stores.{putAll}
 use Rattle.machine.specs.state.Flog.{mapWord, mapBlock, newerWord, pending}
 use Rattle.machine.specs.calls.Opening.{laneReadable, mendStore, mends, mended, twoPending}
 use Rattle.machine.specs.words.Valid.{Pending, MendedBlock}
-use Rattle.machine.proofs.stores.Stores.{Arena, elsewhere, stored-word}
-use Rattle.machine.proofs.stores.MapStores.{map-fits}
+use Rattle.machine.proofs.stores.Stores.{Arena, stored-word}
+use Rattle.machine.proofs.stores.MapStores.{word-other, map-fits}
 use Rattle.machine.proofs.opening.Mends.{readable-of, pending-old, mends-more, mends-same, mend-keeps, mends-arena}
 use Rattle.machine.proofs.opening.Spare.{two-none}
 
@@ -50,19 +50,16 @@ module _ (g : Layout) (ok : LayoutOk g) (a : List ℕ) (r : Arena g a) (f : (l :
           (map-fits g ok (putAll g (mends g a n) a) q (newerWord g a n 0) (newerWord g a n 2) (h .sector) (h .new)))
       go (no d) ih = by-bool (pending g a n) _
           (λ t. rw (mends-more g a n t)
-          (elsewhere g ok (putAll g (mends g a n) a) (inMap (newerWord g a n 0)) (inMap (newerWord g a l 0)) (mappedTo (newerWord g a n 2))
-          (sector-in n u) (sector-in l (omega arith)) (λ q. two-none g a apart n l u (omega arith) t p (cc)) ∙ ih (omega arith)))
+          (word-other g ok (putAll g (mends g a n) a) (newerWord g a n 0) (mappedTo (newerWord g a n 2)) (sector-in n u) (newerWord g a l 0)
+          (sector-in l (omega arith)) (λ q. two-none g a apart n l u (omega arith) t p (sym q)) ∙ ih (omega arith)))
           (λ t. rw (mends-same g a n t) (ih (omega arith)))
 
   -- the map word of a sector that no pending lane below n names
   word-kept : (n s : ℕ) → n ≤ g .N → s < g .E → ((l : ℕ) → l < n → pending g a l ≡ true → newerWord g a l 0 ≢ s)
       → mapWord g (putAll g (mends g a n) a) s ≡ mapWord g a s
   word-kept n s few u away = mend-keeps g a (λ x. mapWord g x s ≡ mapWord g a s) refl n
-      (λ l v t e. elsewhere g ok (putAll g (mends g a l) a) (inMap (newerWord g a l 0)) (inMap s) (mappedTo (newerWord g a l 2)) (sector-in l (omega arith)) u
-      (λ q. away l v t (same q)) ∙ e)
-    where
-      same : {x y : ℕ} → inMap x ≡ inMap y → y ≡ x
-      same e = cc
+      (λ l v t e. word-other g ok (putAll g (mends g a l) a) (newerWord g a l 0) (mappedTo (newerWord g a l 2)) (sector-in l (omega arith)) s u
+      (λ q. away l v t (sym q)) ∙ e)
 
   pub mended-block : (s : ℕ) → s < g .E → MendedBlock g a s (mapBlock g (mended g a) s)
   unfolding blockOf

@@ -20,7 +20,7 @@ use Rattle.machine.specs.state.Flog.{mapWord}
 use Rattle.machine.specs.models.Row.{Sector, holds, Row, put, lacksLast, finished, settled, lacking}
 use Rattle.machine.proofs.stores.Members.{one-length}
 use Rattle.machine.proofs.stores.Stores.{elsewhere, stored-word}
-use Rattle.machine.proofs.stores.MapStores.{map-fits}
+use Rattle.machine.proofs.stores.MapStores.{word-other, map-fits}
 use Rattle.machine.proofs.invariant.Inv.{Inv}
 use Rattle.machine.proofs.invariant.Finish.{finalStore}
 use Rattle.machine.proofs.opening.Found.{ended, ended-true, finals, finals-more, finals-same, busy-after, idle-ended}
@@ -95,7 +95,7 @@ module _ (τ : Told) (told : ToldOk τ) where
 
       map-other : (s : ℕ) → s < g .E → s ≢ r .sector .0 → mapWord g (endedIn (suc n)) s ≡ mapWord g (endedIn n) s
       map-other s v d = rw (finals-more g (h .lanes) a n t)
-          (elsewhere g (i .ok) (endedIn n) (inMap (r .sector .0)) (inMap s) _ (i .lane n u .sector-in) v (λ e. d (cc)))
+          (word-other g (i .ok) (endedIn n) (r .sector .0) (mappedTo (r .block .0)) (i .lane n u .sector-in) s v d)
 
       lent : Lent (h .distance) (h .figures) a r (k .lane n u .bytes)
       lent = let e = ended-true g r t in k .lane n u .lent (busy-after g a n r (i .lane n u) e) (omega arith)
