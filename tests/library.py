@@ -15,9 +15,10 @@ TOP = pathlib.Path(__file__).resolve().parent.parent
 ARCHIVE = TOP / "target" / "staticlib" / "libbtt.a"
 SHARED = TOP / "target" / "libbtt.so"
 
-# What a parameter is in C: bytes are a pointer and a length, a handle a pointer, a word a u32, a count a pointer to one.
+# What a parameter is in C: bytes are a pointer and a length, a handle a pointer, a word a u32, a count a pointer to a number.
 BYTES, HANDLE, WORD, COUNT = "bytes", "handle", "word", "count"
 LIBRARY_CALLS = {
+    "btt_info_block": (BYTES, COUNT, COUNT),
     "btt_make": (BYTES, WORD, WORD, WORD, BYTES, BYTES),
     "btt_open": (BYTES, BYTES, HANDLE, COUNT),
     "btt_cut_open": (BYTES, BYTES, WORD, COUNT),
@@ -109,6 +110,12 @@ class Library:
 
     def make(self, arena, size, sectors, lanes, first, second):
         return self.call("btt_make", arena, size, sectors, lanes, first, second)
+
+    def info_block(self, arena):
+        """Where the info block that counts begins, and its length."""
+        offset, length = ctypes.c_uint64(0xA5A5A5A5), ctypes.c_uint64(0xA5A5A5A5)
+        self.call("btt_info_block", arena, offset, length)
+        return offset.value, length.value
 
     def open(self, arena, work, handle):
         mended = ctypes.c_uint32(0xA5A5A5A5)

@@ -10,6 +10,7 @@ import time
 import types
 
 import calls
+import checksums
 import histories
 import library
 import model
@@ -139,6 +140,18 @@ MODEL_MISTAKES = {
     "making: 1 before 3": (SIZES_JUDGED, LENGTH_JUDGED + SIZES_JUDGED),
 }
 
+# The same, of the checksum: the runs of words and the info blocks of checksums.py find them.
+CHECKSUM_MISTAKES = {
+    "a rest of fewer than eight words is left out": ("for word in words:", "for word in words[: len(words) // 8 * 8]:"),
+    "the first word is left out": ("for word in words:", "for word in words[1:]:"),
+    "high gets the low before the word": ("high = (high + low)", "high = (high + low - word)"),
+    "high is brought below 2^31": ("high = (high + low) & 0xFFFFFFFF", "high = (high + low) & 0x7FFFFFFF"),
+    "low and high are exchanged": ("return high << 32 | low", "return low << 32 | high"),
+    "the checksum field counts": ("words[1022] = words[1023] = 0", "pass"),
+    "half of the checksum field counts": ("words[1022] = words[1023] = 0", "words[1022] = 0"),
+    "a block of 1,022 words": ("return fletcher64(words)", "return fletcher64(words[:1022])"),
+}
+
 # Mistakes that the promises find with no library to compare with.
 PROMISED = """sequence before new, map word before the flog, flog before the data, data words in falling order, data into the old block,
 the newer half is overwritten, a lane's pair is 32 bytes, map word without its flags, map word of the old block, two stores in a step,
@@ -210,6 +223,25 @@ def histories_needed(lib):
     return (last, fault) if fault else (None, "not found")
 
 
+def checksums_needed(mistaken):
+    """How many runs and blocks it takes until that model's checksum is another, and what it is of."""
+    for number, run in enumerate([*checksums.runs(), *checksums.changed_blocks()], 1):
+        if checksums.text(run, mistaken) != checksums.text(run):
+            return number, "a run of %d bytes" % len(run)
+    return None, "not found"
+
+
+def tried_checksums(names):
+    """Tries every mistake in the checksum, or those of these names, and says which are not found."""
+    missed = []
+    for name in names:
+        began = time.process_time()
+        needed, fault = checksums_needed(edited("model", *CHECKSUM_MISTAKES[name]))
+        missed += [name] if needed is None else []
+        print("%-48s %5s %6.1f s  %s" % (name, needed, time.process_time() - began, fault), flush=True)
+    return missed
+
+
 def main(words):
     """Tries every mistake, or those whose names have one of these words."""
     edits = [("calls", name, edit) for name, edit in {**CALL_MISTAKES, **swapped_orders()}.items()]
@@ -226,7 +258,8 @@ def main(words):
                 alone, fault = histories_needed(lib)
         missed += [name] if None in (needed, alone) else []
         print("%-40s %5s %5s %6.1f s  %s" % (name, needed, alone, time.process_time() - began, fault.split(", after")[0]), flush=True)
-    print("mistakes: %d, not found: %s" % (len(edits), ", ".join(missed) or "none"))
+    missed += tried_checksums([name for name in CHECKSUM_MISTAKES if not words or any(word in name for word in words)])
+    print("mistakes: %d, not found: %s" % (len(edits) + len(CHECKSUM_MISTAKES), ", ".join(missed) or "none"))
     return 1 if missed else 0
 
 

@@ -1,7 +1,8 @@
 """Compares what the programs and the library do with the model.
 
 The report is run on every arena of tests/arenas and on random ones; what `cases` and `runs` must write (rt runs them) has to be what the
-model works out; the library goes through random histories of calls, call by call beside the model.
+model works out; the checksums of random runs of words and of changed info blocks are the model's; the library goes through random
+histories of calls, call by call beside the model.
 """
 import collections
 import pathlib
@@ -11,6 +12,7 @@ import time
 
 import arenas
 import cases
+import checksums
 import histories
 import library
 import model
@@ -57,9 +59,17 @@ def check_running_cases():
     return wrong
 
 
-def check_histories():
+def check_checksums(lib):
+    """What is wrong with the checksums of the program and of the library, as lines."""
+    began = time.process_time()
+    wrong, tried = checksums.check_program()
+    wrong += checksums.check_every_bit(lib)
+    print("tests: %d checksums by the program, every bit of an info block changed, %.0f s" % (tried, time.process_time() - began))
+    return wrong
+
+
+def check_histories(lib):
     """What is wrong with the library's calls, as lines."""
-    lib = library.built()
     began = time.process_time()
     notes, last, fault = histories.run(lib, HISTORIES)
     counts = sum(notes.seen.values()), sum(notes.cuts.values()), time.process_time() - began
@@ -83,7 +93,8 @@ def main():
             wrong.append("random arena %d: %s" % (number, fault))
     if (cases.CASES / "stdout").read_text() != cases.text():
         wrong.append("cases: the stored text is not the model's")
-    wrong += check_running_cases() + check_histories()
+    lib = library.built()
+    wrong += check_running_cases() + check_checksums(lib) + check_histories(lib)
     for line in wrong:
         print("tests: " + line)
     print("tests: %d named and %d random arenas, answers %s, %d faults" % (len(built), RANDOM, dict(sorted(answers.items())), len(wrong)))

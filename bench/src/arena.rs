@@ -1,7 +1,7 @@
 //! Arenas of 16 MiB in memory, each at an address that is a multiple of 4,096.
 use crate::calls::Calls;
 use crate::library::Library;
-use btt::{Arena, Geometry, Handle, Identifiers};
+use btt::{Arena, Geometry, Handle, Identifiers, MIN_ARENA};
 use std::ops::{Deref, DerefMut};
 use std::slice;
 
@@ -11,6 +11,7 @@ pub const LANES: u32 = 4;
 /// Of each sector size the most sectors that 16 MiB hold with four lanes.
 pub const LARGE: Geometry = Geometry { size: 4096, sectors: 4085, lanes: LANES };
 pub const SMALL: Geometry = Geometry { size: 512, sectors: 32_484, lanes: LANES };
+const SHORTEST: Geometry = Geometry { size: 512, sectors: 1, lanes: 1 };
 
 #[repr(C, align(4096))]
 #[derive(Clone, Copy)]
@@ -59,6 +60,18 @@ pub fn fresh(geometry: Geometry) -> Pages {
     let mut arena = Pages::zeroes(LENGTH);
     Arena::new(&mut arena).expect("a page is aligned").make(geometry, Identifiers::ZEROES).expect("making");
     arena
+}
+
+/// As many of the shortest arenas, each with an info block of its own.
+pub fn shortest(count: u32) -> Vec<Pages> {
+    let made = |number: u32| {
+        let mut arena = Pages::zeroes(MIN_ARENA);
+        let (own, parent) = ([number.to_le_bytes(); 4].concat(), [7; 16]);
+        let identifiers = Identifiers { own: &own, parent: &parent };
+        Arena::new(&mut arena).expect("a page is aligned").make(SHORTEST, identifiers).expect("making");
+        arena
+    };
+    (0..count).map(made).collect()
 }
 
 /// An arena whose sectors are all written once, its lanes in turn.

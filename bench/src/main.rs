@@ -36,4 +36,5 @@ fn main() {
     let mut bench = Bench::new(LARGE, fresh(LARGE));
     rows::info_blocks(&mut bench, "info block that counts, one block summed", true);
     rows::info_blocks(&mut bench, "info block that counts, two blocks summed", false);
+    rows::block_sums("100,000 info blocks summed");
 }

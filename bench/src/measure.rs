@@ -76,6 +76,7 @@ fn nanoseconds(time: f64) -> String {
     match time {
         _ if time < 100.0 => format!("{time:.1} ns"),
         _ if time < 10_000.0 => format!("{time:.0} ns"),
-        _ => format!("{:.1} µs", time / 1000.0),
+        _ if time < 1_000_000.0 => format!("{:.1} µs", time / 1000.0),
+        _ => format!("{:.1} ms", time / 1_000_000.0),
     }
 }

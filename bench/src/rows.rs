@@ -1,6 +1,6 @@
 //! The rows of the table. The library and the plain program have an arena each, in the same state, and change arenas at every round;
 //! the copy has room of its own.
-use crate::arena::{sector_bytes, Pages, LANES, LENGTH};
+use crate::arena::{sector_bytes, shortest, Pages, LANES, LENGTH};
 use crate::calls::{Calls, Plain};
 use crate::library::Library;
 use crate::measure::{measure, Side, Times};
@@ -214,4 +214,31 @@ pub fn info_blocks(bench: &mut Bench, what: &str, first_is_sound: bool) {
     });
     flip(bench);
     bench.print(&measured, what);
+}
+
+fn sum_blocks<C: Calls>(arenas: &[Pages], times: u32) {
+    for arena in (0..times).flat_map(|_| arenas) {
+        assert_eq!(C::info_block(black_box(arena)), (0, 4096), "the first block counts");
+    }
+}
+
+/// One hundred thousand info blocks summed: the first blocks of a hundred arenas, in turn. The copy is of those blocks.
+pub fn block_sums(what: &str) {
+    if !asked(what) {
+        return;
+    }
+    const TIMES: u32 = 1000;
+    let arenas = shortest(100);
+    let mut room = Pages::zeroes(4096);
+    let measured = measure(50, 1, |side, _| match side {
+        Side::Library => sum_blocks::<Library>(&arenas, TIMES),
+        Side::Plain => sum_blocks::<Plain>(&arenas, TIMES),
+        Side::Copy => {
+            for arena in (0..TIMES).flat_map(|_| &arenas) {
+                copy(&mut room, &arena[..4096]);
+                black_box(&room);
+            }
+        }
+    });
+    println!("{}", measured.row(what));
 }

@@ -40,6 +40,13 @@ case4 =
     (fletcher64 (1 ∷ 2 ∷ []) is 0x0000000400000003) ∷ (fletcher64 (0xFFFFFFFF ∷ 1 ∷ []) is 0xFFFFFFFF00000000)
     ∷ (fletcher64 [] is 0) ∷ []
 
+-- beside case 4: one word, a turn of eight words, and one word more
+abbrev pub case4-turns : List Worked
+case4-turns =
+    (fletcher64 (0xFFFFFFFF ∷ []) is 0xFFFFFFFFFFFFFFFF)
+    ∷ (fletcher64 (1 ∷ 2 ∷ 3 ∷ 4 ∷ 5 ∷ 6 ∷ 7 ∷ 8 ∷ []) is 0x0000007800000024)
+    ∷ (fletcher64 (1 ∷ 2 ∷ 3 ∷ 4 ∷ 5 ∷ 6 ∷ 7 ∷ 8 ∷ 0xFFFFFFFF ∷ []) is 0x0000009B00000023) ∷ []
+
 -- case 5: what making works out
 abbrev pub case5 : List Worked
 case5 =
@@ -48,4 +55,4 @@ case5 =
 
 unfoldable pub table : List Worked
 table =
-    case1 ++ (case2 ++ (case3 ++ (case3-bits ++ (case4 ++ (case5 ++ (case6 1 ++ (case6 0 ++ (case7 1 ++ (case7 0 ++ case8)))))))))
+    case1 ++ (case2 ++ (case3 ++ (case3-bits ++ (case4 ++ (case4-turns ++ (case5 ++ (case6 1 ++ (case6 0 ++ (case7 1 ++ (case7 0 ++ case8))))))))))

@@ -1,12 +1,12 @@
 -- Laws of the sums of a run of words, each by recursion on the run. Every sum is a remainder by 2 ^ 32, which bounds the checksum.
 use mathlib.Core.Path.{_≡_, refl, ap}
 use mathlib.Core.List.{List, [], _∷_, _++_}
-use Prim.Native.Nat.{ℕ, _+_, _<_, _^_}
+use Prim.Native.Nat.{ℕ, zero, suc, _+_, _<_}
 use native.Mathlib.Omega.{arith}
-use native.Mathlib.Numerals.{add-one}
+use native.Mathlib.Nat.{add-zero, zero-add, suc-add}
 use Rattle.words.specs.Word.{word, wordsFrom}
-use Rattle.words.proofs.Runs.{wordsFrom-snoc}
 use Rattle.fletcher.specs.declared.Sums.{Sums}
+use Rattle.fletcher.specs.Claims.{SmallSums}
 use Rattle.fletcher.specs.Fletcher.{added, addedAll, valueOf, fletcher64, blockChecksum}
 
 pub addedAll-append : (xs ys : List ℕ) (s : Sums) → addedAll s (xs ++ ys) ≡ addedAll (addedAll s xs) ys
@@ -14,18 +14,20 @@ unfolding addedAll
 addedAll-append [] ys s = refl
 addedAll-append (x ∷ xs) ys s = addedAll-append xs ys (added s x)
 
-addedAll-snoc : (ws : List ℕ) (w : ℕ) (s : Sums) → addedAll s (ws ++ (w ∷ [])) ≡ added (addedAll s ws) w
-unfolding addedAll
-addedAll-snoc ws w s = addedAll-append ws (w ∷ []) s
+-- the words from word i on, m of them and then n
+pub addedAll-split : (a : List ℕ) (m i n : ℕ) (s : Sums)
+    → addedAll s (wordsFrom a i (m + n)) ≡ addedAll (addedAll s (wordsFrom a i m)) (wordsFrom a (i + m) n)
+unfolding addedAll wordsFrom
+addedAll-split a zero i n s = rw (zero-add, add-zero)
+addedAll-split a (suc m) i n s =
+    let e : suc i + m ≡ i + suc m = omega arith in
+    rw (suc-add, ← e) (addedAll-split a m (suc i) n (added s (word a i)))
 
 -- one word more of those from word i on
 pub addedAll-from : (a : List ℕ) (i n : ℕ) (s : Sums)
     → addedAll s (wordsFrom a i (n + 1)) ≡ added (addedAll s (wordsFrom a i n)) (word a (i + n))
-addedAll-from a i n s = rw (add-one, wordsFrom-snoc) (addedAll-snoc (wordsFrom a i n) (word a (i + n)) s)
-
--- both sums fit 32 bits
-abbrev pub SmallSums : Sums → Type 0
-SmallSums s = (s .low < 2 ^ 32) × (s .high < 2 ^ 32)
+unfolding addedAll wordsFrom
+addedAll-from a i n s = addedAll-split a n i 1 s
 
 pub added-small : (s : Sums) (w : ℕ) → SmallSums (added s w)
 unfolding added

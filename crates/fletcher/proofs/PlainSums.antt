@@ -1,9 +1,9 @@
--- The running sums against the plain ones: each word more is a step by the laws of remainders.
+-- The checksum against the plain sums: a run of words is one turn from no sums, and an info block's words are those with its field cleared.
 use mathlib.Core.Path.{_≡_, sym, ap, _∙_}
 use mathlib.Core.List.{List, [], _∷_, _++_, append-assoc}
-use Prim.Native.Nat.{ℕ, suc, _+_, _*_, _/_, _%_, _<_}
+use Prim.Native.Nat.{ℕ, _+_, _<_}
 use native.Mathlib.Omega.{arith}
-use native.Mathlib.Nat.{mod-add-mod, add-mul-mod-self-left, add-assoc, mul-left-comm, mul-add, suc-mul}
+use native.Mathlib.Nat.{mul-zero}
 use lib.ListN.{length, take, replicate, length-append, length-take, length-replicate}
 use lib.Seq.{length-take-le, take-at, drop-at}
 use Rattle.words.specs.Word.{word, wordsFrom}
@@ -12,46 +12,16 @@ use Rattle.words.proofs.Bytes.{words-all}
 use Rattle.words.proofs.Laws.{word-take, word-drop}
 use Rattle.words.proofs.Runs.{length-wordsFrom, wordsFrom-same, wordsFrom-snoc}
 use Rattle.fletcher.specs.declared.Sums.{Sums}
-use Rattle.fletcher.specs.Fletcher.{added, addedAll, fletcher64, blockChecksum}
-use Rattle.fletcher.specs.Claims.{sum, weighted, fletcherValue, fieldCleared, ChecksumClaim}
-use Rattle.fletcher.proofs.Laws.{SmallSums, added-small}
-
--- the low sum, from any low sum below 2^32
-low-is : (ws : List ℕ) (s : Sums) → SmallSums s → (addedAll s ws) .low ≡ (s .low + sum ws) % 4294967296
-unfolding addedAll added sum
-low-is [] s h = omega (arith, h .0)
-low-is (w ∷ ws) s h =
-    low-is ws (added s w) (added-small s w) ∙ mod-add-mod (s .low + w) 4294967296 (sum ws)
-    ∙ ap (λ (x : ℕ). x % 4294967296) (omega arith)
-
--- a step of the high sum: h and l are the sums before the word w, n the number of words after it, and t what those add
-step : (h l w n t : ℕ)
-    → ((h + (l + w) % 4294967296) % 4294967296 + n * ((l + w) % 4294967296) + t) % 4294967296
-    ≡ (h + suc n * l + (suc n * w + t)) % 4294967296
-step h l w n t =
-    let r = (l + w) % 4294967296 in
-    let q = (l + w) / 4294967296 in
-    let e : l + w ≡ 4294967296 * q + r = omega arith in
-    let p : n * (l + w) ≡ 4294967296 * (n * q) + n * r =
-    ap (λ (x : ℕ). n * x) e ∙ mul-add n (4294967296 * q) r ∙ ap (λ (x : ℕ). x + n * r) (mul-left-comm n 4294967296 q) in
-    let f : h + r + (n * r + t) + 4294967296 * (q + n * q) ≡ h + suc n * l + (suc n * w + t) =
-    omega (arith, p, mul-add n l w, suc-mul n l, suc-mul n w) in
-    ap (λ (x : ℕ). x % 4294967296) (add-assoc ((h + r) % 4294967296) (n * r) t) ∙ mod-add-mod (h + r) 4294967296 (n * r + t)
-    ∙ sym (add-mul-mod-self-left (h + r + (n * r + t)) 4294967296 (q + n * q)) ∙ ap (λ (x : ℕ). x % 4294967296) f
-
-high-is : (ws : List ℕ) (s : Sums) → SmallSums s → (addedAll s ws) .high ≡ (s .high + length ws * s .low + weighted ws) % 4294967296
-unfolding addedAll added weighted
-high-is [] s h = omega (arith, h .1)
-high-is (w ∷ ws) s h = high-is ws (added s w) (added-small s w) ∙ step (s .high) (s .low) w (length ws) (weighted ws)
+use Rattle.fletcher.specs.Fletcher.{fletcher64, blockChecksum}
+use Rattle.fletcher.specs.Claims.{SmallSums, fletcherValue, fieldCleared, ChecksumClaim}
+use Rattle.fletcher.proofs.Turns.{turn-law}
 
 fletcher-value : (ws : List ℕ) → fletcher64 ws ≡ fletcherValue ws
 unfolding fletcher64
 fletcher-value ws =
     let z : Sums = record { low = 0; high = 0 } in
     let s : SmallSums z = (omega arith, omega arith) in
-    let l = low-is ws z s in
-    let h = high-is ws z s in
-    omega (arith, l, h)
+    rw (turn-law ws z s) (omega (arith, mul-zero (length ws)))
 
 -- the words of a block with its checksum field cleared
 cleared-length : (b : List ℕ) → length b ≡ 4096 → length (fieldCleared b) ≡ 4096
@@ -90,6 +60,7 @@ pub checksum-claim : ChecksumClaim
 unfolding blockChecksum
 checksum-claim =
     record {
+      turn = turn-law;
       value = fletcher-value;
       block = λ b l. ap fletcher64 (sym (block-words b l)) ∙ fletcher-value (wordsIn (fieldCleared b));
       block-words = λ b l. ap length (words-all 1024 (fieldCleared b) (cleared-length b l)) ∙ length-wordsFrom (fieldCleared b) 0 1024;

@@ -1,2 +1,4 @@
 pub mod Claims
+pub mod Columns
 pub mod Fletcher
+pub mod Plain

@@ -1,14 +1,16 @@
 // Fletcher64 over 32-bit words, and the checksum of an info block.
 pub mod claims;
+mod columns;
 
+use crate::columns::Columns;
 use words::join;
 use words::word_at;
 ghost use mathlib.Core.Path.{_≡_};
-ghost use mathlib.Core.List.{List, []};
-ghost use Prim.Native.Nat.{_+_, _*_, _≤_, _<_};
+ghost use Prim.Native.Nat.{_+_, _*_, _≤_};
 ghost use lib.ListN.{length};
 ghost use Rattle.words.specs.Word.{wordsFrom};
 ghost use Rattle.fletcher.specs.Fletcher.{added, addedAll, valueOf, fletcher64, blockChecksum};
+ghost use Rattle.fletcher.specs.Columns.{joinedRun};
 
 // The two running sums, each modulo 2^32.
 pub struct Sums {
@@ -36,8 +38,8 @@ impl Sums {
         }
     }
 
-    // The sums with n words more, from word i of a on.
-    pub fn add_words(self, a: &[u8], i: usize, n: usize) -> Self
+    // The sums with n words more, from word i of a on, one after the other.
+    fn add_singly(self, a: &[u8], i: usize, n: usize) -> Self
         requires { ⌜ 4 * (i + n) ≤ length (now a) ⌝ }
         ensures { λ r. ⌜ r ≡ addedAll self (wordsFrom (now (a .entry)) i n) ⌝ }
     {
@@ -48,6 +50,28 @@ impl Sums {
             k += 1;
         }
         sums
+    }
+
+    // The sums with n words more that have sums of their own: high gets n times the low before, too.
+    fn add_run(self, n: usize, run: Sums) -> Self
+        ensures { λ r. ⌜ r ≡ joinedRun self n run ⌝ }
+    {
+        let before = (n % 4294967296) as u64 * (self.low as u64);
+        let high = self.high as u64 + before % 4294967296 + run.high as u64;
+        Sums {
+            low: std::num::wrapping_add_u32(self.low, run.low),
+            high: (high % 4294967296) as u32,
+        }
+    }
+
+    // The sums with n words more, from word i of a on: turns of eight, and the rest singly.
+    pub fn add_words(self, a: &[u8], i: usize, n: usize) -> Self
+        requires { ⌜ 4 * (i + n) ≤ length (now a) ⌝ }
+        ensures { λ r. ⌜ r ≡ addedAll self (wordsFrom (now (a .entry)) i n) ⌝ }
+    {
+        let turned = 8 * (n / 8);
+        let run = Columns::of_turns(a, i, n / 8).sums();
+        self.add_run(turned, run).add_singly(a, i + turned, n % 8)
     }
 
     // The checksum: high x 2^32 + low.

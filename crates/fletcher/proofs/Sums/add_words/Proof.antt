@@ -1,59 +1,39 @@
--- `fletcher::Sums::add_words` meets its contract. The loop's invariant: the sums are those with k words more. The measure is what is left of n.
+-- `fletcher::Sums::add_words` meets its contract: the words of the turns as a run by itself, and those of the rest after it.
 use borrow.Author.Needs.{needs}
-use mathlib.Core.Path.{_≡_, refl, sym}
-use Prim.Native.Nat.{_-_, _≤_}
-use native.Mathlib.Nat.{le-antisymm}
-use Rattle.words.specs.Word.{wordsFrom}
-use Rattle.fletcher.specs.Fletcher.{addedAll}
-use Rattle.fletcher.proofs.Laws.{addedAll-from}
+use mathlib.Core.Path.{_≡_}
+use Prim.Native.Nat.{_+_, _*_, _/_, _%_}
+use native.Mathlib.Omega.{arith}
+use Rattle.fletcher.proofs.Turns.{run-and-rest}
 use Rattle.fletcher.proofs.Sums.add_words.Statement.{statement}
 use Rattle.fletcher.proofs.Sums.add_words.Tie as tie
 
-abbrev Inv-loop : tie.InvT-loop
-Inv-loop a i n sums₀ k₀ sums k = (k ≤ n) × (sums ≡ addedAll sums₀ (wordsFrom a i k))
+mul-turned : tie.Need-mul-turned
+mul-turned c = search needs
 
-abbrev μ-loop : tie.MeasureT-loop
-μ-loop a i n sums₀ k₀ sums k = n - k
+of-turns-requires : tie.Need-of-turns-requires
+of-turns-requires c κs = search needs
 
-loop-holds : tie.Need-loop-holds Inv-loop μ-loop
-unfolding addedAll wordsFrom
-loop-holds c = (search needs, refl)
+sums-requires : tie.Need-sums-requires
+sums-requires c κs = search needs
 
-add-word-at : tie.Need-add-word-at Inv-loop μ-loop
-add-word-at c = search needs
+add-run-requires : tie.Need-add-run-requires
+add-run-requires c κs = search needs
 
-word-at-requires : tie.Need-word-at-requires Inv-loop μ-loop
-word-at-requires c κs = search needs
+add-add-singly : tie.Need-add-add-singly
+add-add-singly c = search needs
 
-add-requires : tie.Need-add-requires Inv-loop μ-loop
-add-requires c κs = search needs
+add-singly-requires : tie.Need-add-singly-requires
+add-singly-requires c κs = search needs
 
-add-k : tie.Need-add-k Inv-loop μ-loop
-add-k c = search needs
-
-loop-less : tie.Need-loop-less Inv-loop μ-loop
-loop-less c = search needs
-
-loop-again : tie.Need-loop-again Inv-loop μ-loop
-loop-again c = (
-  search needs,
-  rw (c .add .ensures, c .before .word-at .ensures, c .before .before .before .loop .inv .1) (sym (addedAll-from _ _ (c .before .before .before .loop .k) _)),
-)
-
-returns : tie.Need-returns Inv-loop μ-loop
-returns c = let e = le-antisymm (c .before .loop .inv .0) (c .loop-test .left) in rw (← e) (c .before .loop .inv .1)
+returns : tie.Need-returns
+returns c =
+    let args = c .before .before .before .before .before .args in
+    let m = 8 * (args .n / 8) in
+    let e : m + args .n % 8 ≡ args .n = omega arith in
+    rw (c .add-singly .ensures, c .before .add-run .ensures, c .before .before .sums .ensures, c .before .before .before .of-turns .ensures)
+    (rw e at (run-and-rest (args .a .now) (args .i) m (args .n % 8) (args .self) (search needs)))
 
 pub add-words-spec : {M : Type 1} → statement M
 add-words-spec =
     tie.close
-    (tie.spec
-    Inv-loop
-    μ-loop
-    loop-holds
-    add-word-at
-    word-at-requires
-    add-requires
-    add-k
-    loop-less
-    loop-again
-    returns)
+    (tie.spec mul-turned of-turns-requires sums-requires add-run-requires add-add-singly add-singly-requires returns)
