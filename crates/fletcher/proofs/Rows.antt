@@ -1,12 +1,12 @@
 -- Laws of sums in columns: rows added column by column, a turn, and what each column adds to the two sums.
 use mathlib.Core.Path.{_≡_, refl, ap, _∙_, sym}
-use mathlib.Core.List.{List, [], _∷_, _++_}
+use mathlib.Core.List.{List, [], _∷_}
 use Prim.Native.Nat.{ℕ, zero, suc, _+_, _*_, _-_, _%_, _≤_, _<_}
 use native.Mathlib.Omega.{arith}
 use native.Mathlib.Nat.{mod-add-mod, mul-add, mul-le-mul-right, suc-inj}
 use native.Mathlib.Numerals.{add-one}
-use lib.ListN.{length, getD, take, drop, length-drop}
-use lib.Seq.{drop-cons}
+use lib.ListN.{length, getD, set, take, drop, length-drop}
+use lib.Seq.{drop-cons, take-suc, take-suc-set, take-all}
 use mir.Syntax.{w64}
 use mir.Val.{Fits}
 use Rattle.fletcher.specs.Fletcher.{addedAll}
@@ -58,14 +58,20 @@ turn-columns lows befores ws eb ew =
       high = (all ∙ ap (λ (x : ℕ). x % 4294967296) e ∙ sym then) i;
     })
 
--- one column more of two rows
-pub plus-suc : (xs ys : List ℕ) (j : ℕ) → length xs ≡ length ys → j < length xs
-    → take (suc j) (plus xs ys) ≡ take j (plus xs ys) ++ ((getD xs j 0 + getD ys j 0) % 4294967296 ∷ [])
+pub getD-plus : (xs ys : List ℕ) (j : ℕ) → length xs ≡ length ys → j < length xs → getD (plus xs ys) j 0 ≡ (getD xs j 0 + getD ys j 0) % 4294967296
 unfolding plus
-plus-suc [] ys j e l = absurd (omega arith)
-plus-suc (x ∷ xs) [] j e l = absurd (omega arith)
-plus-suc (x ∷ xs) (y ∷ ys) zero e l = refl
-plus-suc (x ∷ xs) (y ∷ ys) (suc j) e l = ap (λ (r : List ℕ). (x + y) % 4294967296 ∷ r) (plus-suc xs ys j (suc-inj e) (omega arith))
+getD-plus [] ys j e l = absurd (omega arith)
+getD-plus (x ∷ xs) [] j e l = absurd (omega arith)
+getD-plus (x ∷ xs) (y ∷ ys) zero e l = refl
+getD-plus (x ∷ xs) (y ∷ ys) (suc j) e l = getD-plus xs ys j (suc-inj e) (omega arith)
+
+-- a row r that is filled with the elements of s, one after the other: a store, and the end
+pub stored-next : (r s : List ℕ) (j v : ℕ) → length r ≡ length s → j < length r → take j r ≡ take j s → v ≡ getD s j 0
+    → take (j + 1) (set r j v) ≡ take (j + 1) s
+stored-next r s j v e l h f = rw add-one (take-suc-set r j v l ∙ rw (h, f) (sym (take-suc s j 0 (omega arith))))
+
+pub all-stored : (r s : List ℕ) (j : ℕ) → length r ≡ length s → length r ≤ j → take j r ≡ take j s → r ≡ s
+all-stored r s j e l h = sym (take-all j r l) ∙ h ∙ take-all j s (omega arith)
 
 -- what the columns from j on have yet to add, the column j first
 pub sum-from : (xs : List ℕ) (j : ℕ) → j < length xs → sum (drop j xs) ≡ getD xs j 0 + sum (drop (j + 1) xs)

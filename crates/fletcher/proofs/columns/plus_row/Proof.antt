@@ -3,11 +3,9 @@ use borrow.Author.Needs.{needs}
 use mathlib.Core.Path.{_≡_, refl, sym, _∙_}
 use Prim.Native.Nat.{_-_, _≤_}
 use native.Mathlib.Omega.{arith}
-use native.Mathlib.Numerals.{add-one}
 use lib.ListN.{length, take, length-set}
-use lib.Seq.{take-all, take-suc-set}
 use Rattle.fletcher.specs.Columns.{plus}
-use Rattle.fletcher.proofs.Rows.{length-plus, plus-suc}
+use Rattle.fletcher.proofs.Rows.{length-plus, getD-plus, stored-next, all-stored}
 use Rattle.fletcher.proofs.columns.plus_row.Statement.{statement}
 use Rattle.fletcher.proofs.columns.plus_row.Tie as tie
 
@@ -51,23 +49,23 @@ loop-again : tie.Need-loop-again Inv-loop μ-loop
 loop-again c =
     let l = c .before .before .loop in
     let args = c .before .before .before .args in
-    let e = l .inv .2 ∙ sym (l .inv .3) in (
+    let v = c .wrapping-add-u32 .result in
+    let xy = l .inv .2 ∙ sym (l .inv .3) in
+    let e = length-plus (args .t1) (args .t2) xy in
+    let w = c .wrapping-add-u32 .ensures ∙ sym (getD-plus (args .t1) (args .t2) (l .j) xy (omega arith)) in (
       search needs,
-      length-set (l .row) (l .j) (c .wrapping-add-u32 .result) ∙ l .inv .1,
+      length-set (l .row) (l .j) v ∙ l .inv .1,
       l .inv .2,
       l .inv .3,
-      rw add-one
-          (take-suc-set (l .row) (l .j) (c .wrapping-add-u32 .result) (omega arith)
-          ∙ rw (l .inv .4, c .wrapping-add-u32 .ensures) (sym (plus-suc (args .t1) (args .t2) (l .j) e (omega arith)))),
+      stored-next (l .row) (plus (args .t1) (args .t2)) (l .j) v (omega arith) (omega arith) (l .inv .4) w,
     )
 
 returns : tie.Need-returns Inv-loop μ-loop
 returns c =
     let l = c .before .loop in
     let args = c .before .before .args in
-    let e : l .j ≡ 8 = omega arith in
-    let p = length-plus (args .t1) (args .t2) (l .inv .2 ∙ sym (l .inv .3)) in
-    sym (take-all 8 (l .row) (omega arith)) ∙ rw (← e) (l .inv .4) ∙ take-all 8 (plus (args .t1) (args .t2)) (omega arith)
+    let e = length-plus (args .t1) (args .t2) (l .inv .2 ∙ sym (l .inv .3)) in
+    all-stored (l .row) (plus (args .t1) (args .t2)) (l .j) (omega arith) (omega arith) (l .inv .4)
 
 pub plus-row-spec : {M : Type 1} → statement M
 plus-row-spec =
