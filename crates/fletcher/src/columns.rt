@@ -1,4 +1,4 @@
-// Sums of eight columns: word k of a run goes to column k modulo 8, so that of the sums of a turn none waits for another.
+// Sums in eight columns: word k of a run goes to column k modulo 8, so that of the sums of a turn none waits for another.
 use crate::Sums;
 use words::word_at;
 ghost use mathlib.Core.Path.{_≡_};
@@ -74,7 +74,7 @@ impl Columns {
         columns
     }
 
-    // The sums of all the words: high has eight times what was before each turn, and of column j its words 8 - j times.
+    // The sums of all the words: high has what was in the columns before each turn eight times, and what column j has now 8 - j times.
     pub fn sums(self) -> Sums
         ensures { λ r. ⌜ r ≡ sumsOf self ⌝ }
     {

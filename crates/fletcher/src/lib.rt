@@ -52,7 +52,7 @@ impl Sums {
         sums
     }
 
-    // The sums with n words more that have sums of their own: high gets n times the low before, too.
+    // The sums with a run of n words more, given the sums of that run alone: high also grows by n times the low before.
     fn add_run(self, n: usize, run: Sums) -> Self
         ensures { λ r. ⌜ r ≡ joinedRun self n run ⌝ }
     {
