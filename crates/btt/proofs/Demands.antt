@@ -7,7 +7,7 @@ use Rattle.layout.specs.Told.{alone}
 use Rattle.machine.specs.calls.Opening.{figuresIn, openOf}
 use Rattle.machine.specs.calls.History.{Call, State, Event, SmallEvents, openedFrom}
 use Rattle.machine.specs.calls.Asides.{Happening, latest, latestOf, afterOne, AllHarmless}
-use Rattle.machine.specs.models.Row.{OneBuffer, firstRow}
+use Rattle.machine.specs.models.Row.{Keeping, wordByWord, lastBuffer, OneBuffer, firstRow}
 use Rattle.machine.specs.models.Book.{bookAfter}
 use Rattle.machine.specs.claims.DemandTwo.{FollowsRow}
 use Rattle.machine.specs.claims.DemandThree.{Listed, AsBooked, AfterCut, Promised}
@@ -39,22 +39,21 @@ unfolding plain
 plain-harmless [] x = tt
 plain-harmless (e ∷ es) x = (tt, plain-harmless es (afterOne alone x (latest e)))
 
-module _ (a work : List ℕ) (es : List Event) (small : Small a) (small-events : SmallEvents es) (z : (openOf alone a work) .number ≡ 0)
-    (one : OneBuffer (figuresIn a) (firstRow (openedFrom alone a work)) es) where
+module _ (a work : List ℕ) (es : List Event) (small : Small a) (small-events : SmallEvents es) (z : (openOf alone a work) .number ≡ 0) where
   abbrev x : State
   x = openedFrom alone a work
 
-  follows : FollowsRow alone a work (plain es)
-  follows =
-      demand-two .follows a work (plain es) small (rw (plain-latest es) small-events) z (plain-harmless es x) (rw (plain-latest es) one)
+  smalls : SmallEvents (latestOf (plain es))
+  smalls = rw (plain-latest es) small-events
 
   same : SameEvents (openedHost (bttOpenOf a work)) x es
   same =
       events-same (openedHost (bttOpenOf a work)) x es (first-same a work small z)
       (held-small alone told-alone x (held-open alone told-alone a work small z))
 
-  host-follows : HostFollowsRow a work es
-  host-follows =
+  -- whatever the row keeps, the host follows it where the machine does
+  host-follows : (keep : Keeping) → FollowsRow keep alone a work (plain es) → HostFollowsRow keep a work es
+  host-follows keep follows =
       let heard = rw (plain-latest es) at (latest-heard alone told-alone (plain es) x (plain-harmless es x)) in
       let left = rw (plain-latest es) at (latest-state alone told-alone (plain es) x (plain-harmless es x)) in
       record {
@@ -62,6 +61,12 @@ module _ (a work : List ℕ) (es : List Event) (small : Small a) (small-events :
         reads = λ s buffer. read-same _ _ _ s buffer (same .leaves .handle)
             ∙ rw (same .leaves .arena) (rw (left, plain-latest es) at (follows .reads s buffer));
       }
+
+  host-words : HostFollowsRow wordByWord a work es
+  host-words = host-follows wordByWord (demand-two .words a work (plain es) small smalls z (plain-harmless es x))
+
+  host-one : OneBuffer (figuresIn a) (firstRow (openedFrom alone a work)) es → HostFollowsRow lastBuffer a work es
+  host-one one = host-follows lastBuffer (demand-two .follows a work (plain es) small smalls z (plain-harmless es x) (rw (plain-latest es) one))
 
 -- ---- demand 3
 
@@ -84,4 +89,4 @@ module _ (y : HostState) (x : State) (cs : List Call) (bytes : ℕ → List ℕ)
   }
 
 pub host-demands : HostDemands
-host-demands = record { two = host-follows; three = host-promised }
+host-demands = record { two-words = host-words; two = host-one; three = host-promised }

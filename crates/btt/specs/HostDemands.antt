@@ -8,7 +8,7 @@ use Rattle.layout.specs.Told.{alone}
 use Rattle.machine.specs.state.Stores.{Store, putAll}
 use Rattle.machine.specs.calls.Opening.{figuresIn, layoutIn, openOf}
 use Rattle.machine.specs.calls.History.{Call, State, Event, SmallEvents, openedFrom}
-use Rattle.machine.specs.models.Row.{rowRead, rowAfterAll, rowReplies, OneBuffer, firstRow}
+use Rattle.machine.specs.models.Row.{Keeping, wordByWord, lastBuffer, rowRead, rowAfterAll, rowReplies, OneBuffer, firstRow}
 use Rattle.machine.specs.models.Book.{bookAfter, bookReplies, kept}
 use Rattle.machine.specs.claims.DemandThree.{SameMembers, takenApart, Listed, AfterCut}
 use Rattle.btt.specs.Calls.{bttOpenOf, bttReadOf}
@@ -20,11 +20,11 @@ use Rattle.btt.specs.HostList.{HostState, openedHost, hostRun, hostRepli
 abbrev pub hostLeft : List ℕ → List ℕ → List Event → HostState
 hostLeft a work es = hostRunEvents (openedHost (bttOpenOf a work)) es
 
--- the answers, the buffers and every read after them are the plain row's
-pub record HostFollowsRow (a work : List ℕ) (es : List Event) : Type 0 where
-  pub replies : hostReplyEvents (openedHost (bttOpenOf a work)) es ≡ rowReplies (figuresIn a) (firstRow (openedFrom alone a work)) es
+-- the answers, the buffers and every read after them are the plain row's, whose writes in flight keep what keep says
+pub record HostFollowsRow (keep : Keeping) (a work : List ℕ) (es : List Event) : Type 0 where
+  pub replies : hostReplyEvents (openedHost (bttOpenOf a work)) es ≡ rowReplies keep (figuresIn a) (firstRow (openedFrom alone a work)) es
   pub reads : (s : ℕ) (buffer : List ℕ) → bttReadOf ((hostLeft a work es) .arena) ((hostLeft a work es) .handle) s buffer
-      ≡ rowRead (figuresIn a) (rowAfterAll (figuresIn a) (firstRow (openedFrom alone a work)) es) s buffer
+      ≡ rowRead (figuresIn a) (rowAfterAll keep (figuresIn a) (firstRow (openedFrom alone a work)) es) s buffer
 
 -- ---- demand 3
 
@@ -43,9 +43,12 @@ pub record HostPromised (y : HostState) (x : State) (cs : List Call) (bytes : �
       → AfterCut alone (x .arena) (x .handle) bytes ((hostRun y p) .arena) (bookAfter alone (x .arena) [] p) work
 
 pub record HostDemands : Type 0 where
+  -- any arena that opens, any list and any buffers: the write in flight holds the words stored so far, each from the buffer of its own step
+  pub two-words : (a work : List ℕ) (es : List Event) → Small a → SmallEvents es → (openOf alone a work) .number ≡ 0
+      → HostFollowsRow wordByWord a work es
   -- any arena that opens, and any list in which each write is handed the same bytes throughout
   pub two : (a work : List ℕ) (es : List Event) → Small a → SmallEvents es → (openOf alone a work) .number ≡ 0
-      → OneBuffer (figuresIn a) (firstRow (openedFrom alone a work)) es → HostFollowsRow a work es
+      → OneBuffer (figuresIn a) (firstRow (openedFrom alone a work)) es → HostFollowsRow lastBuffer a work es
   -- a host whose bytes hold the handle of such an arena, all lanes idle, and a list as demand 3 has it
   pub three : (y : HostState) (x : State) (cs : List Call) (bytes : ℕ → List ℕ) → StandsFor y x → Listed alone x cs bytes
       → HostPromised y x cs bytes

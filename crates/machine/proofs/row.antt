@@ -4,8 +4,11 @@ pub mod Contents
 pub mod DemandTwo
 pub mod Events
 pub mod Follows
+pub mod Lanes
 pub mod Opens
 pub mod Reads
+pub mod SameBytes
 pub mod State
 pub mod Steps
+pub mod Words
 pub mod Zeroes

@@ -1,13 +1,14 @@
 -- Every call leaves what the row leaves. A whole write is a start and then its steps with one buffer, so the row is followed from step
 -- to step, and ends with the sector written and the lane idle again.
 use mathlib.Core.Path.{_≡_, refl, sym, ap, _∙_, subst}
-use mathlib.Core.List.{List, []}
+use mathlib.Core.List.{List}
 use mathlib.Core.Bool.{true, false}
-use Prim.Native.Nat.{ℕ, zero, suc, _+_, _≤_, _<_}
+use Prim.Native.Nat.{ℕ, zero, suc, _+_, _*_, _≤_, _<_}
 use native.Mathlib.Omega.{arith}
 use native.Mathlib.Numerals.{add-one}
 use lib.Dec.{eqb}
-use lib.ListN.{length}
+use lib.ListN.{length, take}
+use lib.Seq.{take-all}
 use borrow.Author.Tests.{eqb-true, eq-eqb, ne-eqb, lt-leb}
 use Rattle.words.specs.Bytes.{Small}
 use Rattle.format.proofs.Tests.{by-bool}
@@ -18,12 +19,13 @@ use Rattle.machine.specs.state.Handle.{Handle, laidOut, ToldOk}
 use Rattle.machine.specs.state.Lane.{writeStores}
 use Rattle.machine.specs.calls.Writing.{Outcome, startNumber, startOf, stepNumber, stepOf, stepsOf, writeNumber, writeOf}
 use Rattle.machine.specs.calls.History.{start, step, write, State, after}
-use Rattle.machine.specs.models.Row.{holds, Flight, idle, flying, Row, put, rowNumber, rowAfter, SameFlight}
+use Rattle.machine.specs.models.Row.{holds, Flight, idle, flying, Row, put, wordByWord, rowNumber, rowAfter}
 use Rattle.machine.proofs.calls.Accepted.{start-found, step-found, WriteFound, write-found}
-use Rattle.machine.proofs.invariant.Held.{lanes-in, good-start, good-step}
+use Rattle.machine.proofs.invariant.Held.{held-whole, lanes-in, good-start, good-step}
 use Rattle.machine.proofs.invariant.Histories.{steps-alike, alike-after}
 use Rattle.machine.proofs.row.State.{Rep, rep-same}
 use Rattle.machine.proofs.row.Answers.{number-is}
+use Rattle.machine.proofs.row.Words.{kept-same}
 use Rattle.machine.proofs.row.Steps.{last-store, started, step-any}
 use Rattle.layout.specs.declared.Told.{Told}
 
@@ -40,13 +42,13 @@ module _ (d : ℕ) (f : Figures) (row : Row) (l s n : ℕ) (bytes buffer : List 
   flown-number = rw (lt-leb (f .lanes) l u, eq-eqb l l refl, eq-eqb (length buffer) (f .size) size)
 
   flown-more : eqb n ((layoutOf d f) .W + 4) ≡ false
-      → rowAfter f (flown row l s n bytes) (step l buffer) ≡ flown (flown row l s n bytes) l s (suc n) buffer
+      → rowAfter wordByWord f (flown row l s n bytes) (step l buffer) ≡ flown (flown row l s n bytes) l s (suc n) (wordByWord f n bytes buffer)
   unfolding rowAfter
   flown-more e = rw (flown-number, eq-eqb l l refl, last-store d f n, e, add-one n)
 
   flown-last : eqb n ((layoutOf d f) .W + 4) ≡ true
-      → rowAfter f (flown row l s n bytes) (step l buffer)
-      ≡ record { sector = put (row .sector) s (holds buffer); lane = put (put (row .lane) l (flying s n bytes)) l idle }
+      → rowAfter wordByWord f (flown row l s n bytes) (step l buffer)
+      ≡ record { sector = put (row .sector) s (holds (wordByWord f n bytes buffer)); lane = put (put (row .lane) l (flying s n bytes)) l idle }
   unfolding rowAfter
   flown-last e = rw (flown-number, eq-eqb l l refl, last-store d f n, e)
 
@@ -61,20 +63,19 @@ module _ (τ : Told) where
 
 module _ (τ : Told) (told : ToldOk τ) where
   module _ (row : Row) (a : List ℕ) (h : Handle) (k : Rep τ row a h) where
-    pub start-rep : (l s : ℕ) → RepAfter τ (rowAfter (h .figures) row (start l s)) (startOf a h l s)
+    pub start-rep : (l s : ℕ) → RepAfter τ (rowAfter wordByWord (h .figures) row (start l s)) (startOf a h l s)
     unfolding rowAfter startOf
     start-rep l s = rw (← (number-is τ told row a h k (start l s))) (by-bool (eqb (startNumber a h l s) 0) _
         (λ t. let d = start-found a h l s (eqb-true _ _ t) in
         rw t (started τ told row a h k l (lanes-in (h .distance) (h .figures) l (d .lane)) s (rw t at (good-start τ told a h l s (k .held)))))
         (λ t. rw t k))
 
-    pub step-rep : (l : ℕ) (buffer : List ℕ) → Small buffer → (rowNumber (h .figures) row (step l buffer) ≡ 0 → SameFlight buffer (row .lane l))
-        → RepAfter τ (rowAfter (h .figures) row (step l buffer)) (stepOf a h l buffer)
+    pub step-rep : (l : ℕ) (buffer : List ℕ) → Small buffer
+        → RepAfter τ (rowAfter wordByWord (h .figures) row (step l buffer)) (stepOf a h l buffer)
     unfolding rowAfter stepOf
-    step-rep l buffer small same = rw (← (number-is τ told row a h k (step l buffer))) (by-bool (eqb (stepNumber a h l buffer) 0) _
-        (λ t. let e = eqb-true _ _ t in
-        let d = step-found a h l buffer e in
-        rw t (step-any τ told row a h k l (lanes-in (h .distance) (h .figures) l (d .lane)) (d .busy) buffer small (d .size) (same (sym (number-is τ told row a h k (step l buffer)) ∙ e))
+    step-rep l buffer small = rw (← (number-is τ told row a h k (step l buffer))) (by-bool (eqb (stepNumber a h l buffer) 0) _
+        (λ t. let d = step-found a h l buffer (eqb-true _ _ t) in
+        rw t (step-any τ told row a h k l (lanes-in (h .distance) (h .figures) l (d .lane)) (d .busy) buffer small (d .size)
         (rw t at (good-step τ told a h l buffer small (k .held)))))
         (λ t. rw t k))
 
@@ -86,11 +87,9 @@ module _ (τ : Told) (told : ToldOk τ) where
     abbrev stepsMade : ℕ → Outcome
     stepsMade n = stepsOf n ((startOf a h l s) .arena) ((startOf a h l s) .handle) l buffer
 
-    -- after n steps: the write is in flight, and its bytes are the buffer's
-    record Along (n : ℕ) : Type 0 where
-      bytes : List ℕ
-      same : 0 < n → buffer ≡ bytes
-      rep : RepAfter τ (flown row l s n bytes) (stepsMade n)
+    -- after n steps: the write is in flight, and keeps the buffer's first words
+    abbrev Along : ℕ → Type 0
+    Along n = RepAfter τ (flown row l s n (take (4 * n) buffer)) (stepsMade n)
 
     found : WriteFound a h l s buffer
     found = write-found a h l s buffer e
@@ -114,31 +113,33 @@ module _ (τ : Told) (told : ToldOk τ) where
     -- the start
     begun : Along 0
     unfolding stepsOf rowAfter
-    begun = record {
-      bytes = [];
-      same = λ v. absurd (omega arith);
-      rep = rw (sym (number-is τ told row a h k (start l s)) ∙ found .start) at (start-rep row a h k l s);
-    }
+    begun = rw (sym (number-is τ told row a h k (start l s)) ∙ found .start) at (start-rep row a h k l s)
 
     -- one step of the write
-    one : (n : ℕ) (r : Along n)
-        → RepAfter τ (rowAfter ((stepsMade n) .handle .figures) (flown row l s n (r .bytes)) (step l buffer)) (stepsMade (suc n))
+    one : (n : ℕ) → Along n
+        → RepAfter τ (rowAfter wordByWord ((stepsMade n) .handle .figures) (flown row l s n (take (4 * n) buffer)) (step l buffer)) (stepsMade (suc n))
     unfolding stepsOf
-    one n r = step-rep (flown row l s n (r .bytes)) ((stepsMade n) .arena) ((stepsMade n) .handle) (r .rep) l buffer small
-        (λ _. rw (eq-eqb l l refl) (r .same))
+    one n r = step-rep (flown row l s n (take (4 * n) buffer)) ((stepsMade n) .arena) ((stepsMade n) .handle) r l buffer small
+
+    -- what it leaves of the buffer's first words
+    grown : (n : ℕ) → wordByWord ((stepsMade n) .handle .figures) n (take (4 * n) buffer) buffer ≡ take (4 * suc n) buffer
+    grown n = rw (figures-kept n) (kept-same (h .figures) (unfold layoutOf in (held-whole τ told a h (k .held))) buffer (found .size) n
+        ∙ ap (λ (m : ℕ). take (4 * m) buffer) (add-one n))
 
     more : (n : ℕ) → n < g .W + 4 → Along n → Along (suc n)
-    more n u r = record { bytes = buffer; same = λ _. refl; rep = next }
+    more n u r = rep-same τ told (flown (flown row l s n bytes) l s (suc n) (take (4 * suc n) buffer)) (flown row l s (suc n) (take (4 * suc n) buffer)) _ _
+        (λ j _. put-twice (row .lane) l (flying s n bytes) (flying s (suc n) (take (4 * suc n) buffer)) j) (λ _ _. refl) moved
       where
+        bytes : List ℕ
+        bytes = take (4 * n) buffer
+
         t : eqb n ((laidOut ((stepsMade n) .handle)) .W + 4) ≡ false
         t = rw (distance-kept n, figures-kept n) (ne-eqb n (g .W + 4) (λ d. omega arith))
 
-        moved : RepAfter τ (flown (flown row l s n (r .bytes)) l s (suc n) buffer) (stepsMade (suc n))
-        moved = subst (λ (x : Row). RepAfter τ x (stepsMade (suc n))) (flown-more _ _ row l s n (r .bytes) buffer (lane-in n) (size-is n) t) (one n r)
-
-        next : RepAfter τ (flown row l s (suc n) buffer) (stepsMade (suc n))
-        next = rep-same τ told (flown (flown row l s n (r .bytes)) l s (suc n) buffer) (flown row l s (suc n) buffer) _ _
-            (λ j _. put-twice (row .lane) l (flying s n (r .bytes)) (flying s (suc n) buffer) j) (λ _ _. refl) moved
+        moved : RepAfter τ (flown (flown row l s n (take (4 * n) buffer)) l s (suc n) (take (4 * suc n) buffer)) (stepsMade (suc n))
+        moved = subst (λ (x : Row). RepAfter τ x (stepsMade (suc n)))
+            (flown-more _ _ row l s n (take (4 * n) buffer) buffer (lane-in n) (size-is n) t
+            ∙ ap (flown (flown row l s n (take (4 * n) buffer)) l s (suc n)) (grown n)) (one n r)
 
     along : (n : ℕ) → n ≤ g .W + 4 → Along n
     along zero u = begun
@@ -157,23 +158,28 @@ module _ (τ : Told) (told : ToldOk τ) where
     whole : RepAfter τ written (stepsMade (writeStores g))
     whole = let c : suc m ≡ writeStores g = omega arith in
         subst (λ (n : ℕ). RepAfter τ written (stepsMade n)) c
-        (rep-same τ told landed written _ _ (λ j _. calm j (flying s m (r .bytes))) (λ _ _. refl)
-        (subst (λ (x : Row). RepAfter τ x (stepsMade (suc m))) (flown-last _ _ row l s m (r .bytes) buffer (lane-in m) (size-is m) t) (one m r)))
+        (rep-same τ told landed written _ _ (λ j _. calm j (flying s m (take (4 * m) buffer))) (λ _ _. refl)
+        (subst (λ (x : Row). RepAfter τ x (stepsMade (suc m)))
+        (flown-last _ _ row l s m (take (4 * m) buffer) buffer (lane-in m) (size-is m) t ∙ ap land (grown m ∙ all)) (one m (along m (omega arith)))))
       where
         m : ℕ
         m = g .W + 4
 
-        r : Along (g .W + 4)
-        r = along (g .W + 4) (omega arith)
-
         t : eqb (g .W + 4) ((laidOut ((stepsMade (g .W + 4)) .handle)) .W + 4) ≡ true
         t = rw (distance-kept (g .W + 4), figures-kept (g .W + 4)) (eq-eqb (g .W + 4) (g .W + 4) refl)
 
+        -- the map word is stored, of what was kept
+        land : List ℕ → Row
+        land bytes = record { sector = put (row .sector) s (holds bytes); lane = put (put (row .lane) l (flying s (g .W + 4) (take (4 * (g .W + 4)) buffer))) l idle }
+
         landed : Row
-        landed = record { sector = put (row .sector) s (holds buffer); lane = put (put (row .lane) l (flying s (g .W + 4) (r .bytes))) l idle }
+        landed = land buffer
+
+        all : take (4 * suc (g .W + 4)) buffer ≡ buffer
+        all = take-all (4 * suc (g .W + 4)) buffer (omega (arith, held-whole τ told a h (k .held), found .size))
 
   pub write-rep : (row : Row) (a : List ℕ) (h : Handle) → Rep τ row a h → (l s : ℕ) (buffer : List ℕ) → Small buffer
-      → RepAfter τ (rowAfter (h .figures) row (write l s buffer)) (writeOf a h l s buffer)
+      → RepAfter τ (rowAfter wordByWord (h .figures) row (write l s buffer)) (writeOf a h l s buffer)
   unfolding rowAfter writeOf
   write-rep row a h k l s buffer small = rw (← (number-is τ told row a h k (write l s buffer))) (by-bool (eqb (writeNumber a h l s buffer) 0) _
       (λ t. rw t (whole row a h k l s buffer small (eqb-true _ _ t)))

@@ -1,6 +1,7 @@
 -- Demand 2, put together: every history follows the row, a made arena begins with zeroes, and each accepted call does what its table says.
 use Rattle.machine.specs.claims.DemandTwo.{DemandTwo}
-use Rattle.machine.proofs.row.Follows.{follows}
+use Rattle.machine.proofs.row.Follows.{words-follow}
+use Rattle.machine.proofs.row.SameBytes.{one-buffer-follows}
 use Rattle.machine.proofs.calls.Tables.{read-table, start-table, step-table, write-table}
 use Rattle.machine.proofs.row.Zeroes.{has-zeroes}
 use Rattle.layout.specs.Told.{alone}
@@ -8,7 +9,8 @@ use Rattle.machine.proofs.opening.Described.{told-alone}
 
 pub demand-two : DemandTwo
 demand-two = record {
-  follows = follows alone told-alone;
+  words = words-follow alone told-alone;
+  follows = one-buffer-follows alone told-alone (words-follow alone told-alone);
   zeroes = has-zeroes;
   read = read-table;
   start = start-table;

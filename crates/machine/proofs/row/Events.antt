@@ -34,7 +34,7 @@ use Rattle.machine.specs.calls.History.{
   SmallCall,
   SmallEvent,
 }
-use Rattle.machine.specs.models.Row.{idle, Row, rowNumber, rowReply, rowAfter, lacking, reopened, rowOpenNumber, rowAfterEvent, rowReplyEvent, SameBuffer}
+use Rattle.machine.specs.models.Row.{idle, Row, wordByWord, rowNumber, rowReply, rowAfter, lacking, reopened, rowOpenNumber, rowAfterEvent, rowReplyEvent}
 use Rattle.machine.proofs.opening.Described.{Described}
 use Rattle.machine.proofs.opening.Opens.{some-number-open, open-number, opened-idle}
 use Rattle.machine.proofs.rules.Rules.{first-zero}
@@ -53,7 +53,7 @@ use Rattle.machine.specs.state.Handle.{laneAt, ToldOk}
 -- ---- openings
 
 pub idle-as : (d : ℕ) (f : Figures) (a : List ℕ) (r : Lane) → isBusy r ≡ false → LaneAs d f a r idle
-idle-as d f a r e = record { bytes = []; is = rw e; lent = λ b _. true-false (sym b ∙ e) }
+idle-as d f a r e = record { bytes = []; is = rw e; lent = λ b. true-false (sym b ∙ e) }
 
 module _ (τ : Told) where
   abbrev pub RepIn : Row → State → Type 0
@@ -129,7 +129,7 @@ module _ (τ : Told) (told : ToldOk τ) where
             → _≡_ {A = Reply} (record { number = n; buffer = b; mended = m }) (record { number = n′; buffer = b′; mended = m′ })
         same p q r = λ j. record { number = p j; buffer = q j; mended = r j }
 
-    open-rep : RepIn τ (rowAfterEvent (x .handle .figures) row (opened work)) (afterEvent τ x (opened work))
+    open-rep : RepIn τ (rowAfterEvent wordByWord (x .handle .figures) row (opened work)) (afterEvent τ x (opened work))
     unfolding rowAfterEvent
     open-rep = by-bool (ltb (length work) (x .handle .figures .blocks)) _
         (λ t. rw (room-or .1 t, refused t) k)
@@ -144,13 +144,13 @@ module _ (τ : Told) (told : ToldOk τ) where
   call-reply row x k (step l buffer) = rw (number-is τ told row (x .arena) (x .handle) k (step l buffer))
   call-reply row x k (write l s buffer) = rw (number-is τ told row (x .arena) (x .handle) k (write l s buffer))
 
-  call-rep : (row : Row) (x : State) → RepIn τ row x → (c : Call) → SmallCall c → SameBuffer (x .handle .figures) row (called c)
-      → RepIn τ (rowAfter (x .handle .figures) row c) (after x c)
-  call-rep row x k (read s buffer) small same = unfold rowAfter in
+  call-rep : (row : Row) (x : State) → RepIn τ row x → (c : Call) → SmallCall c
+      → RepIn τ (rowAfter wordByWord (x .handle .figures) row c) (after x c)
+  call-rep row x k (read s buffer) small = unfold rowAfter in
       (by-bool (eqb (rowNumber (x .handle .figures) row (read s buffer)) 0) _ (λ t. rw t k) (λ t. rw t k))
-  call-rep row x k (start l s) small same = start-rep τ told row (x .arena) (x .handle) k l s
-  call-rep row x k (step l buffer) small same = step-rep τ told row (x .arena) (x .handle) k l buffer small same
-  call-rep row x k (write l s buffer) small same = write-rep τ told row (x .arena) (x .handle) k l s buffer small
+  call-rep row x k (start l s) small = start-rep τ told row (x .arena) (x .handle) k l s
+  call-rep row x k (step l buffer) small = step-rep τ told row (x .arena) (x .handle) k l buffer small
+  call-rep row x k (write l s buffer) small = write-rep τ told row (x .arena) (x .handle) k l s buffer small
 
   -- ---- both
 
@@ -158,7 +158,7 @@ module _ (τ : Told) (told : ToldOk τ) where
   event-reply row x k (called c) = unfold rowReplyEvent in (call-reply row x k c)
   event-reply row x k (opened work) = open-reply row x k work
 
-  pub event-rep : (row : Row) (x : State) → RepIn τ row x → (e : Event) → SmallEvent e → SameBuffer (x .handle .figures) row e
-      → RepIn τ (rowAfterEvent (x .handle .figures) row e) (afterEvent τ x e)
-  event-rep row x k (called c) small same = unfold rowAfterEvent in (call-rep row x k c small same)
-  event-rep row x k (opened work) small same = open-rep row x k work
+  pub event-rep : (row : Row) (x : State) → RepIn τ row x → (e : Event) → SmallEvent e
+      → RepIn τ (rowAfterEvent wordByWord (x .handle .figures) row e) (afterEvent τ x e)
+  event-rep row x k (called c) small = unfold rowAfterEvent in (call-rep row x k c small)
+  event-rep row x k (opened work) small = open-rep row x k work

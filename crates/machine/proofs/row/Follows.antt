@@ -28,17 +28,16 @@ use Rattle.machine.specs.calls.History.{
 use Rattle.machine.specs.models.Row.{
   idle,
   Row,
+  wordByWord,
   rowRead,
   rowAfterEvent,
   rowReplyEvent,
   rowAfterAll,
   rowReplies,
-  SameBuffer,
-  OneBuffer,
   foundSector,
   firstRow,
 }
-use Rattle.machine.specs.claims.DemandTwo.{AllIdle, OpensAgain, FollowsRow, leaves, rowLeft}
+use Rattle.machine.specs.claims.DemandTwo.{AllIdle, OpensAgain, FollowsRow, FollowsWords, leaves, rowLeft}
 use Rattle.machine.proofs.opening.Opens.{opened-figures, opened-idle}
 use Rattle.machine.proofs.invariant.Good.{idle-arena, idle-count}
 use Rattle.machine.proofs.calls.Running.{word-idle}
@@ -66,20 +65,18 @@ module _ (τ : Told) (told : ToldOk τ) where
   -- ---- event by event
 
   -- one event, where the figures are f
-  event-of : (f : Figures) (row : Row) (x : State) (e : Event) → x .handle .figures ≡ f → RepIn τ row x → SmallEvent e → SameBuffer f row e
-      → (replyEvent τ x e ≡ rowReplyEvent f row e) × RepIn τ (rowAfterEvent f row e) (afterEvent τ x e)
-  event-of f row x e g k small = subst
-      (λ (y : Figures). SameBuffer y row e → (replyEvent τ x e ≡ rowReplyEvent y row e) × RepIn τ (rowAfterEvent y row e) (afterEvent τ x e)) g
-      (λ same. (event-reply τ told row x k e, event-rep τ told row x k e small same))
+  event-of : (f : Figures) (row : Row) (x : State) (e : Event) → x .handle .figures ≡ f → RepIn τ row x → SmallEvent e
+      → (replyEvent τ x e ≡ rowReplyEvent f row e) × RepIn τ (rowAfterEvent wordByWord f row e) (afterEvent τ x e)
+  event-of f row x e g k small = rw (← g) (event-reply τ told row x k e, event-rep τ told row x k e small)
 
-  follow : (f : Figures) (es : List Event) (row : Row) (x : State) → x .handle .figures ≡ f → RepIn τ row x → SmallEvents es → OneBuffer f row es
-      → (replyEvents τ x es ≡ rowReplies f row es) × RepIn τ (rowAfterAll f row es) (runEvents τ x es)
+  follow : (f : Figures) (es : List Event) (row : Row) (x : State) → x .handle .figures ≡ f → RepIn τ row x → SmallEvents es
+      → (replyEvents τ x es ≡ rowReplies wordByWord f row es) × RepIn τ (rowAfterAll wordByWord f row es) (runEvents τ x es)
   unfolding says runs
-  follow f [] row x g k small one = (refl, k)
-  follow f (e ∷ es) row x g k small one =
-      let p = event-of f row x e g k (small e (List·Memᴰ·head refl)) (one .0) in
-      let q = follow f es (rowAfterEvent f row e) (afterEvent τ x e) (alike-event τ told x e (k .held) .figures ∙ g) (p .1)
-      (λ d m. small d (List·Memᴰ·tail m)) (one .1) in
+  follow f [] row x g k small = (refl, k)
+  follow f (e ∷ es) row x g k small =
+      let p = event-of f row x e g k (small e (List·Memᴰ·head refl)) in
+      let q = follow f es (rowAfterEvent wordByWord f row e) (afterEvent τ x e) (alike-event τ told x e (k .held) .figures ∙ g) (p .1)
+      (λ d m. small d (List·Memᴰ·tail m)) in
       (ap₂ {C = List Reply} (λ r rs. r ∷ rs) (p .0) (q .0), q .1)
 
   -- ---- opened again with every lane idle
@@ -122,7 +119,7 @@ module _ (τ : Told) (told : ToldOk τ) where
   -- ---- the claim
 
   module _ (a work : List ℕ) (hs : List Happening) (small : Small a) (smalls : SmallEvents (latestOf hs)) (e : (openOf τ a work) .number ≡ 0)
-      (harmless : AllHarmless τ (openedFrom τ a work) hs) (one : OneBuffer (figuresIn a) (firstRow (openedFrom τ a work)) (latestOf hs)) where
+      (harmless : AllHarmless τ (openedFrom τ a work) hs) where
     begins : HeldIn τ (openedFrom τ a work)
     begins = held-open τ told a work small e
 
@@ -130,23 +127,26 @@ module _ (τ : Told) (told : ToldOk τ) where
     come : runEvents τ (openedFrom τ a work) (latestOf hs) ≡ leaves τ a work hs
     come = sym (latest-state τ told hs (openedFrom τ a work) harmless)
 
-    ran : (replyEvents τ (openedFrom τ a work) (latestOf hs) ≡ rowReplies (figuresIn a) (firstRow (openedFrom τ a work)) (latestOf hs))
-        × RepIn τ (rowLeft τ a work hs) (runEvents τ (openedFrom τ a work) (latestOf hs))
+    ran : (replyEvents τ (openedFrom τ a work) (latestOf hs) ≡ rowReplies wordByWord (figuresIn a) (firstRow (openedFrom τ a work)) (latestOf hs))
+        × RepIn τ (rowLeft wordByWord τ a work hs) (runEvents τ (openedFrom τ a work) (latestOf hs))
     ran = follow (figuresIn a) (latestOf hs) (firstRow (openedFrom τ a work)) (openedFrom τ a work) (opened-figures τ told a work e)
-        (first-rep (openedFrom τ a work) begins (opened-idle τ told a work e)) smalls one
+        (first-rep (openedFrom τ a work) begins (opened-idle τ told a work e)) smalls
 
-    rep : RepIn τ (rowLeft τ a work hs) (leaves τ a work hs)
-    rep = subst (RepIn τ (rowLeft τ a work hs)) come (ran .1)
+    rep : RepIn τ (rowLeft wordByWord τ a work hs) (leaves τ a work hs)
+    rep = subst (RepIn τ (rowLeft wordByWord τ a work hs)) come (ran .1)
 
     figures-last : (leaves τ a work hs) .handle .figures ≡ figuresIn a
     figures-last = subst (λ (x : State). x .handle .figures ≡ figuresIn a) come
         (alike-events τ told (openedFrom τ a work) (latestOf hs) smalls begins .figures ∙ opened-figures τ told a work e)
 
-    pub follows : FollowsRow τ a work hs
-    follows = record {
+    follows-row : FollowsRow wordByWord τ a work hs
+    follows-row = record {
       replies = latest-heard τ told hs (openedFrom τ a work) harmless ∙ ran .0;
-      reads = λ s buffer. read-is τ told _ _ _ rep s buffer ∙ ap (λ (f : Figures). rowRead f (rowLeft τ a work hs) s buffer) figures-last;
+      reads = λ s buffer. read-is τ told _ _ _ rep s buffer ∙ ap (λ (f : Figures). rowRead f (rowLeft wordByWord τ a work hs) s buffer) figures-last;
       figures = held-figures τ told (leaves τ a work hs) (rep .held) ∙ figures-last;
       handle = figures-last;
       again = λ calm room u. opens-again _ _ rep calm room (rw figures-last u);
     }
+
+pub words-follow : (τ : Told) → ToldOk τ → FollowsWords τ
+words-follow τ told = follows-row τ told

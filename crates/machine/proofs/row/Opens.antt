@@ -98,13 +98,13 @@ module _ (τ : Told) (told : ToldOk τ) where
           (word-other g (i .ok) (endedIn n) (r .sector .0) (mappedTo (r .block .0)) (i .lane n u .sector-in) s v d)
 
       lent : Lent (h .distance) (h .figures) a r (k .lane n u .bytes)
-      lent = let e = ended-true g r t in k .lane n u .lent (busy-after g a n r (i .lane n u) e) (omega arith)
+      lent = let e = ended-true g r t in k .lane n u .lent (busy-after g a n r (i .lane n u) e)
 
       -- the lane's sector, and the others
       landed : (s : ℕ) → s ≡ r .sector .0 → contentOf (h .distance) (h .figures) (endedIn (suc n)) s ≡ holds (k .lane n u .bytes)
       landed s e = let m = ended-true g r t in
           content-mapped (h .distance) (h .figures) (i .ok) (held-whole τ told a h (k .held)) (endedIn (suc n)) (ended-inv (suc n) u .arena) s (r .block .0)
-          (i .lane n u .block-in) (map-word s e) (k .lane n u .bytes) (lent .small) (lent .size)
+          (i .lane n u .block-in) (map-word s e) (k .lane n u .bytes) (lent .small) (lent .full (omega arith))
           (λ x c d. same-data (r .block .0) x (i .lane n u .block-in) d ∙ lent .words x (omega arith) d)
 
       left : (s : ℕ) → s < g .E → s ≢ r .sector .0 → contentOf (h .distance) (h .figures) (endedIn (suc n)) s ≡ contentOf (h .distance) (h .figures) (endedIn n) s

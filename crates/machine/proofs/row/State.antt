@@ -1,9 +1,9 @@
--- An arena and its latest handle against the row: each lane of the row is what the lane's record says, each sector what its map word
--- says, and the new block of a write in flight has the words that were stored.
+-- An arena and its latest handle against the row that keeps its writes word by word: each lane of the row is what the lane's record
+-- says, each sector what its map word says, and the new block of a write in flight has the words that the row keeps.
 use mathlib.Core.Path.{_≡_, _∙_}
 use mathlib.Core.List.{List}
 use mathlib.Core.Bool.{true, cond}
-use Prim.Native.Nat.{ℕ, _<_}
+use Prim.Native.Nat.{ℕ, _*_, _≤_, _<_}
 use lib.ListN.{length}
 use Rattle.words.specs.Bytes.{Small}
 use Rattle.layout.specs.Place.{layoutOf}
@@ -20,16 +20,17 @@ use Rattle.layout.specs.declared.Told.{Told}
 abbrev pub flightOf : Lane → List ℕ → Flight
 flightOf r bytes = cond (isBusy r) (flying (r .sector .0) (r .made) bytes) idle
 
--- the bytes of a write in flight that has made a store: a buffer, of which the stored words are in the new block
+-- the bytes of a write in flight: its data words so far, which are in the new block
 pub record Lent (d : ℕ) (f : Figures) (a : List ℕ) (r : Lane) (bytes : List ℕ) : Type 0 where
   pub small : Small bytes
-  pub size : length bytes ≡ f .size
+  pub part : r .made ≤ (layoutOf d f) .W → length bytes ≡ 4 * r .made
+  pub full : (layoutOf d f) .W ≤ r .made → length bytes ≡ f .size
   pub words : Filled (layoutOf d f) a (r .block .0) bytes (r .made)
 
 pub record LaneAs (d : ℕ) (f : Figures) (a : List ℕ) (r : Lane) (y : Flight) : Type 0 where
   pub bytes : List ℕ
   pub is : y ≡ flightOf r bytes
-  pub lent : isBusy r ≡ true → 0 < r .made → Lent d f a r bytes
+  pub lent : isBusy r ≡ true → Lent d f a r bytes
 
 module _ (τ : Told) where
   pub record Rep (row : Row) (a : List ℕ) (h : Handle) : Type 0 where

@@ -1,10 +1,10 @@
 -- A start and a step leave what the row leaves. A data word goes to the lane's new block, which no sector is mapped to and no other
 -- lane has; a word of the log touches no block and no map word; the map word makes the new block, then filled, the sector's.
-use mathlib.Core.Path.{_≡_, refl, sym, ap, _∙_, subst}
+use mathlib.Core.Path.{_≡_, refl, sym, ap, _∙_}
 use mathlib.Core.Logic.{_≢_}
 use mathlib.Core.List.{List, []}
 use mathlib.Core.Bool.{true, cond}
-use Prim.Native.Nat.{ℕ, _+_, _/_, _≤_, _<_}
+use Prim.Native.Nat.{ℕ, _+_, _*_, _/_, _≤_, _<_}
 use native.Mathlib.Omega.{arith}
 use native.Mathlib.Decide.{ℕ-discrete, decLt}
 use lib.Dec.{eqb}
@@ -13,6 +13,7 @@ use borrow.Author.Tests.{eq-eqb, ne-eqb}
 use Rattle.words.specs.Word.{word}
 use Rattle.words.proofs.Laws.{word-lt}
 use Rattle.words.specs.Bytes.{Small}
+use Rattle.format.proofs.Below.{below-nil}
 use Rattle.format.proofs.Tests.{true-false}
 use Rattle.layout.specs.Place.{Layout, layoutOf, Place, inData, inMap, inFlog, InRange, at}
 use Rattle.layout.specs.declared.Figures.{Figures}
@@ -22,7 +23,7 @@ use Rattle.machine.specs.state.Lane.{startedLane, storedLane, finishedLa
 use Rattle.machine.specs.state.Stores.{Store, stored}
 use Rattle.machine.specs.state.Flog.{mapBlock}
 use Rattle.machine.specs.calls.Writing.{planOf, storeAt, laneStored}
-use Rattle.machine.specs.models.Row.{Sector, holds, Flight, idle, flying, Row, put, storesOf, stepped, SameFlight}
+use Rattle.machine.specs.models.Row.{Sector, holds, Flight, idle, flying, Row, put, storesOf, wordByWord, stepped}
 use Rattle.machine.proofs.stores.Once.{free-unmapped, free-apart}
 use Rattle.machine.proofs.stores.Stores.{Fits, elsewhere, stored-word, stored-arena}
 use Rattle.machine.proofs.invariant.Inv.{Inv, blockIn, lane-same, lane-other}
@@ -33,7 +34,8 @@ use Rattle.machine.proofs.stores.Kinds.{Kind, isData, isLog, isMap, kin
 use Rattle.machine.proofs.invariant.Steps.{stored-more, stored-last}
 use Rattle.machine.proofs.invariant.Held.{Held, held-whole}
 use Rattle.machine.proofs.row.Contents.{contentOf, Filled, content-kept, content-mapped}
-use Rattle.machine.proofs.row.State.{LaneAs, Rep}
+use Rattle.machine.proofs.row.State.{Lent, LaneAs, Rep}
+use Rattle.machine.proofs.row.Words.{kept-small, kept-old, kept-new, kept-length, kept-done}
 use Rattle.layout.specs.declared.Told.{Told}
 
 -- the last store of a write, in the row's words and in the layout's
@@ -48,7 +50,7 @@ lane-as : (d : ℕ) (f : Figures) (a a′ : List ℕ) (r : Lane) (y : Flight)
 lane-as d f a a′ r y e w = record {
   bytes = w .bytes;
   is = w .is;
-  lent = λ b u. let t = w .lent b u in record { small = t .small; size = t .size; words = λ k c v. e k v ∙ t .words k c v };
+  lent = λ b. let t = w .lent b in record { small = t .small; part = t .part; full = t .full; words = λ k c v. e k v ∙ t .words k c v };
 }
 
 module _ (τ : Told) (told : ToldOk τ) where
@@ -78,9 +80,12 @@ module _ (τ : Told) (told : ToldOk τ) where
     started s d = record {
       held = d;
       lane = lanes-put a (startedLane r s (mapBlock g a s)) (flying s 0 [])
-          (record { bytes = []; is = refl; lent = λ _ v. absurd (omega arith) }) (λ j v _. k .lane j v);
+          (record { bytes = []; is = refl; lent = λ _. begun }) (λ j v _. k .lane j v);
       sector = k .sector;
     }
+      where
+        begun : Lent (h .distance) (h .figures) a (startedLane r s (mapBlock g a s)) []
+        begun = record { small = below-nil 256 (omega arith); part = λ _. refl; full = λ v. omega (arith, held-whole τ told a h (k .held)); words = λ x c _. absurd (omega arith) }
 
     -- an accepted step: the store st, the record q, and the lane and the sectors of the row after it
     module _ (st : Store) (range : InRange g (st .place)) where
@@ -119,24 +124,48 @@ module _ (τ : Told) (told : ToldOk τ) where
 
     -- ---- the stores of an accepted step
 
-    module _ (b : isBusy r ≡ true) (buffer : List ℕ) (small : Small buffer) (size : length buffer ≡ h .figures .size)
-        (same : SameFlight buffer (row .lane l)) where
+    module _ (b : isBusy r ≡ true) (buffer : List ℕ) (small : Small buffer) (size : length buffer ≡ h .figures .size) where
       flight : row .lane l ≡ flying (r .sector .0) (r .made) (k .lane l u .bytes)
       flight = k .lane l u .is ∙ rw b
 
-      -- the stored words are the buffer's, which every step of the write was handed
-      so-far : Filled g a (r .block .0) buffer (r .made)
-      so-far x c d =
-          k .lane l u .lent b (omega arith) .words x c d
-          ∙ ap (λ (y : List ℕ). word y x) (sym (subst (SameFlight buffer) flight same (omega arith)))
+      lent : Lent (h .distance) (h .figures) a r (k .lane l u .bytes)
+      lent = k .lane l u .lent b
+
+      -- what the write keeps after the step
+      abbrev bytes : List ℕ
+      bytes = wordByWord (h .figures) (r .made) (k .lane l u .bytes) buffer
+
+      -- the words stored so far stay
+      so-far : Filled g a (r .block .0) bytes (r .made)
+      unfolding layoutOf
+      so-far x c d = lent .words x c d ∙ sym (kept-old (h .figures) (r .made) (k .lane l u .bytes) buffer (λ v. lent .part (omega arith)) x c)
+
+      part : r .made + 1 ≤ g .W → length bytes ≡ 4 * (r .made + 1)
+      unfolding layoutOf
+      part v = kept-length (h .figures) (r .made) (k .lane l u .bytes) buffer (omega arith) (lent .part (omega arith)) size
+
+      done : g .W ≤ r .made → bytes ≡ k .lane l u .bytes
+      unfolding layoutOf
+      done v = kept-done (h .figures) (r .made) (k .lane l u .bytes) buffer (omega arith)
+
+      full : g .W ≤ r .made + 1 → length bytes ≡ h .figures .size
+      full v = go (decLt (r .made) (g .W))
+        where
+          go : Dec (r .made < g .W) → length bytes ≡ h .figures .size
+          go (yes c) = omega (arith, part (omega arith), held-whole τ told a h (k .held))
+          go (no c) = ap length (done (omega arith)) ∙ lent .full (omega arith)
 
       -- one store more, not the last
-      more : (a′ : List ℕ) → Filled g a′ (r .block .0) buffer (r .made + 1)
-          → LaneAs (h .distance) (h .figures) a′ (storedLane r) (flying (r .sector .0) (r .made + 1) buffer)
-      more a′ w = record { bytes = buffer; is = rw b; lent = λ _ _. record { small = small; size = size; words = w } }
+      more : (a′ : List ℕ) → Filled g a′ (r .block .0) bytes (r .made + 1)
+          → LaneAs (h .distance) (h .figures) a′ (storedLane r) (flying (r .sector .0) (r .made + 1) bytes)
+      more a′ w = record {
+        bytes = bytes;
+        is = rw b;
+        lent = λ _. record { small = kept-small (h .figures) (r .made) (k .lane l u .bytes) buffer (lent .small) small; part = part; full = full; words = w };
+      }
 
       abbrev Next : Row
-      Next = record { sector = row .sector; lane = put (row .lane) l (flying (r .sector .0) (r .made + 1) buffer) }
+      Next = record { sector = row .sector; lane = put (row .lane) l (flying (r .sector .0) (r .made + 1) bytes) }
 
       abbrev After : Store → Lane → Row → Type 0
       After st q next = Held τ (stored g st a) (withLane h l q) → Rep τ next (stored g st a) (withLane h l q)
@@ -144,7 +173,7 @@ module _ (τ : Told) (told : ToldOk τ) where
       data-step : r .made < g .W → After (record { place = inData (r .block .0) (r .made); value = word buffer (r .made) }) (storedLane r) Next
       data-step c d =
           moved st (fits .range) _ _ (row .sector) d
-          (more _ (filled st (fits .range) buffer (r .made) (r .made + 1) so-far here (λ x v e. omega (arith, word-no e)))) others
+          (more _ (filled st (fits .range) bytes (r .made) (r .made + 1) so-far here (λ x v e. omega (arith, word-no e)))) others
           (λ s v. kept st (fits .range) s v (λ e. true-false (cc)) (λ n e. unmapped s v (block-no e)))
         where
           st : Store
@@ -153,14 +182,17 @@ module _ (τ : Told) (told : ToldOk τ) where
           fits : Fits g st
           fits = record { range = (i .lane l u .block-in, c); small = word-lt buffer (r .made) small }
 
+          added : word bytes (r .made) ≡ word buffer (r .made)
+          added = unfold layoutOf in (kept-new (h .figures) (r .made) (k .lane l u .bytes) buffer c (lent .part (omega arith)))
+
           block-no : {x y x′ y′ : ℕ} → inData x y ≡ inData x′ y′ → x ≡ x′
           block-no e = cc
 
           word-no : {x y x′ y′ : ℕ} → inData x y ≡ inData x′ y′ → y ≡ y′
           word-no e = cc
 
-          here : (x : ℕ) → r .made ≤ x → x < r .made + 1 → x < g .W → word (stored g st a) (at g (inData (r .block .0) x)) ≡ word buffer x
-          here x v w _ = let e : x ≡ r .made = omega arith in rw e (stored-word g (i .ok) a st (i .arena) fits)
+          here : (x : ℕ) → r .made ≤ x → x < r .made + 1 → x < g .W → word (stored g st a) (at g (inData (r .block .0) x)) ≡ word bytes x
+          here x v w _ = let e : x ≡ r .made = omega arith in rw e (stored-word g (i .ok) a st (i .arena) fits ∙ sym added)
 
           others : (j n : ℕ) → j < g .N → j ≢ l → inData ((laneAt (h .lanes) j) .block .0) n ≢ st .place
           others j n v d e =
@@ -172,7 +204,7 @@ module _ (τ : Told) (told : ToldOk τ) where
       flog-step : (j v : ℕ) → j < 4 → r .made ≡ g .W + j → After (record { place = inFlog l (r .half) j; value = v }) (storedLane r) Next
       flog-step j v c m d =
           moved st range _ _ (row .sector) d
-          (more _ (filled st range buffer _ _ so-far (λ x p q w. absurd (omega arith)) (λ x _. no-block _ x))) (λ x n _ _. no-block _ n)
+          (more _ (filled st range bytes _ _ so-far (λ x p q w. absurd (omega arith)) (λ x _. no-block _ x))) (λ x n _ _. no-block _ n)
           (λ s w. kept st range s w (λ e. true-false (cc)) (no-block _))
         where
           st : Store
@@ -184,13 +216,13 @@ module _ (τ : Told) (told : ToldOk τ) where
           no-block : (x y : ℕ) → inData x y ≢ inFlog l (r .half) j
           no-block x y e = true-false (cc)
 
-      -- the last store: the sector holds the buffer, and the lane is idle
+      -- the last store: the sector holds what was kept, and the lane is idle
       abbrev Landed : Row
-      Landed = record { sector = put (row .sector) (r .sector .0) (holds buffer); lane = put (row .lane) l idle }
+      Landed = record { sector = put (row .sector) (r .sector .0) (holds bytes); lane = put (row .lane) l idle }
 
       map-step : r .made ≡ g .W + 4 → After (finalStore r) (finishedLane r) Landed
       map-step m d =
-          moved st (fits .range) _ idle (put (row .sector) s (holds buffer)) d (record { bytes = []; is = refl; lent = λ e _. true-false (sym e) })
+          moved st (fits .range) _ idle (put (row .sector) s (holds bytes)) d (record { bytes = []; is = refl; lent = λ e. true-false (sym e) })
           (λ x n _ _. no-block _ n) (λ t v. content t v (ℕ-discrete t s))
         where
           s : ℕ
@@ -206,15 +238,16 @@ module _ (τ : Told) (told : ToldOk τ) where
           no-block x y e = true-false (cc)
 
           content : (t : ℕ) → t < g .E → Dec (t ≡ r .sector .0)
-              → put (row .sector) (r .sector .0) (holds buffer) t ≡ contentOf (h .distance) (h .figures) (stored g (finalStore r) a) t
+              → put (row .sector) (r .sector .0) (holds bytes) t ≡ contentOf (h .distance) (h .figures) (stored g (finalStore r) a) t
           content t v (yes e) = rw (e, eq-eqb s s refl)
               (sym (content-mapped (h .distance) (h .figures) (i .ok) (held-whole τ told a h (k .held)) _ (stored-arena g (i .ok) a st (i .arena)) s
-              (r .block .0) (i .lane l u .block-in) (stored-word g (i .ok) a st (i .arena) fits) buffer small size
-              (filled st (fits .range) buffer _ _ so-far (λ x p q w. absurd (omega arith)) (λ x _. no-block _ x))))
+              (r .block .0) (i .lane l u .block-in) (stored-word g (i .ok) a st (i .arena) fits) bytes
+              (kept-small (h .figures) (r .made) (k .lane l u .bytes) buffer (lent .small) small) (full (omega arith))
+              (filled st (fits .range) bytes _ _ so-far (λ x p q w. absurd (omega arith)) (λ x _. no-block _ x))))
           content t v (no n) = rw (ne-eqb t s n) (kept st (fits .range) t v (λ e. n (cc)) (no-block _))
 
       -- any store
-      pub step-any : After (storeAt g (planOf l r) buffer (r .made)) (laneStored g r) (stepped (h .figures) row l buffer (row .lane l))
+      pub step-any : After (storeAt g (planOf l r) buffer (r .made)) (laneStored g r) (stepped wordByWord (h .figures) row l buffer (row .lane l))
       step-any = rw (flight, last-store (h .distance) (h .figures) (r .made)) (go (kind g (planOf l r) buffer (r .made) (i .lane l u .made-in)))
         where
           go : Kind g (planOf l r) buffer (r .made)

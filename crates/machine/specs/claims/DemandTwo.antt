@@ -13,7 +13,7 @@ use Rattle.machine.specs.calls.Reading.{readOf}
 use Rattle.machine.specs.calls.Writing.{startOf, stepOf, writeOf}
 use Rattle.machine.specs.calls.History.{runs, State, openedFrom, SmallEvents}
 use Rattle.machine.specs.calls.Asides.{Happening, latestOf, afterOne, AllHarmless, heard}
-use Rattle.machine.specs.models.Row.{Row, holds, rowRead, rowAfterAll, rowReplies, OneBuffer, firstRow}
+use Rattle.machine.specs.models.Row.{Row, holds, Keeping, wordByWord, lastBuffer, rowRead, rowAfterAll, rowReplies, OneBuffer, firstRow}
 use Rattle.machine.specs.words.Table.{ReadTable, StartTable, StepTable, WriteTable}
 
 abbrev pub AllIdle : Handle → Type 0
@@ -23,8 +23,8 @@ AllIdle h = (l : ℕ) → l < h .figures .lanes → (laneAt (h .lanes) l) .busy 
 abbrev pub leaves : Told → List ℕ → List ℕ → List Happening → State
 leaves t a work hs = runs (afterOne t) (openedFrom t a work) hs
 
-abbrev pub rowLeft : Told → List ℕ → List ℕ → List Happening → Row
-rowLeft t a work hs = rowAfterAll (figuresIn a) (firstRow (openedFrom t a work)) (latestOf hs)
+abbrev pub rowLeft : Keeping → Told → List ℕ → List ℕ → List Happening → Row
+rowLeft keep t a work hs = rowAfterAll keep (figuresIn a) (firstRow (openedFrom t a work)) (latestOf hs)
 
 -- opened again, it mends none and changes no byte, and every read gives what the row gives
 pub record OpensAgain (t : Told) (x : State) (row : Row) (room : List ℕ) : Type 0 where
@@ -34,24 +34,30 @@ pub record OpensAgain (t : Told) (x : State) (row : Row) (room : List ℕ) : Typ
   pub reads : (s : ℕ) (buffer : List ℕ) → readOf ((openOf t (x .arena) room) .arena) ((openOf t (x .arena) room) .handle) s buffer
       ≡ rowRead (figuresIn (x .arena)) row s buffer
 
--- an arena a that was opened, after any history hs, against the row that it began with
-pub record FollowsRow (t : Told) (a work : List ℕ) (hs : List Happening) : Type 0 where
+-- an arena a that was opened, after any history hs, against the row that it began with, whose writes in flight keep what keep says
+pub record FollowsRow (keep : Keeping) (t : Told) (a work : List ℕ) (hs : List Happening) : Type 0 where
   -- every call through the latest handle and every opening answers, and gives its buffer back, as the row does
-  pub replies : heard t (openedFrom t a work) hs ≡ rowReplies (figuresIn a) (firstRow (openedFrom t a work)) (latestOf hs)
+  pub replies : heard t (openedFrom t a work) hs ≡ rowReplies keep (figuresIn a) (firstRow (openedFrom t a work)) (latestOf hs)
   -- lanes in flight or not, a read of any sector into any buffer answers, and leaves the buffer, as the row has it
   pub reads : (s : ℕ) (buffer : List ℕ)
-      → readOf ((leaves t a work hs) .arena) ((leaves t a work hs) .handle) s buffer ≡ rowRead (figuresIn a) (rowLeft t a work hs) s buffer
+      → readOf ((leaves t a work hs) .arena) ((leaves t a work hs) .handle) s buffer ≡ rowRead (figuresIn a) (rowLeft keep t a work hs) s buffer
   -- the figures stay those of the info block that was opened
   pub figures : figuresIn ((leaves t a work hs) .arena) ≡ figuresIn a
   pub handle : (leaves t a work hs) .handle .figures ≡ figuresIn a
   pub again : AllIdle ((leaves t a work hs) .handle) → (room : List ℕ) → (figuresIn a) .blocks ≤ length room
-      → OpensAgain t (leaves t a work hs) (rowLeft t a work hs) room
+      → OpensAgain t (leaves t a work hs) (rowLeft keep t a work hs) room
 
--- any arena that opens, and any history in which each write is handed the same bytes throughout; calls given another handle that store
--- nothing, and refused cut openings, may stand anywhere in it
+-- any arena that opens, and any history, whatever buffers its steps are handed; calls given another handle that store nothing, and
+-- refused cut openings, may stand anywhere in it
+abbrev pub FollowsWords : Told → Type 0
+FollowsWords t = (a work : List ℕ) (hs : List Happening) → Small a → SmallEvents (latestOf hs) → (openOf t a work) .number ≡ 0
+    → AllHarmless t (openedFrom t a work) hs → FollowsRow wordByWord t a work hs
+
+-- the same where each write is handed the same bytes throughout
 abbrev pub Follows : Told → Type 0
 Follows t = (a work : List ℕ) (hs : List Happening) → Small a → SmallEvents (latestOf hs) → (openOf t a work) .number ≡ 0
-    → AllHarmless t (openedFrom t a work) hs → OneBuffer (figuresIn a) (firstRow (openedFrom t a work)) (latestOf hs) → FollowsRow t a work hs
+    → AllHarmless t (openedFrom t a work) hs → OneBuffer (figuresIn a) (firstRow (openedFrom t a work)) (latestOf hs)
+    → FollowsRow lastBuffer t a work hs
 
 -- a sector of S zeroes: in the row, and as read
 pub record HasZeroes (size : ℕ) (x : State) (s : ℕ) : Type 0 where
@@ -59,6 +65,9 @@ pub record HasZeroes (size : ℕ) (x : State) (s : ℕ) : Type 0 where
   pub reads : (buffer : List ℕ) → length buffer ≡ size → readOf (x .arena) (x .handle) s buffer ≡ record { number = 0; buffer = replicate size 0 }
 
 pub record DemandTwo : Type 0 where
+  -- any buffers: the write in flight holds the words stored so far, each from the buffer of its own step
+  pub words : FollowsWords alone
+  -- one buffer for each write: the write in flight holds that buffer
   pub follows : Follows alone
   -- a made arena begins with zeroes, and reads them
   pub zeroes : (o : Wanted) (a work : List ℕ) → Small a → Small (o .first) → Small (o .second) → (makeOf o a) .number ≡ 0

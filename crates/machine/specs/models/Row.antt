@@ -2,9 +2,9 @@
 use mathlib.Core.Path.{_≡_}
 use mathlib.Core.Bool.{Bool, true, false, cond, not}
 use mathlib.Core.List.{List, [], _∷_, _++_}
-use Prim.Native.Nat.{ℕ, zero, suc, _+_, _/_, _<_}
+use Prim.Native.Nat.{ℕ, zero, suc, _+_, _*_, _/_, _<_}
 use lib.Dec.{eqb, leb, ltb}
-use lib.ListN.{length, drop, replicate}
+use lib.ListN.{length, take, drop, replicate}
 use Rattle.format.specs.Tests.{some}
 use Rattle.layout.specs.declared.Figures.{Figures}
 use Rattle.machine.specs.Rules.{answer}
@@ -57,7 +57,7 @@ pub data Sector : Type 0 where
   holds : List ℕ → Sector
   bad : Sector
 
--- a lane: idle, or with a write in flight to a sector, so many stores made, of bytes that its steps lend
+-- a lane: idle, or with a write in flight to a sector, so many stores made, and the bytes that it keeps of its steps' buffers
 pub data Flight : Type 0 where
   idle : Flight
   flying : ℕ → ℕ → List ℕ → Flight
@@ -125,24 +125,39 @@ rowReply f row (start l s) = justNumber (rowNumber f row (start l s))
 rowReply f row (step l buffer) = justNumber (rowNumber f row (step l buffer))
 rowReply f row (write l s buffer) = justNumber (rowNumber f row (write l s buffer))
 
+-- ---- what a write in flight keeps
+
+-- by the stores made before a step, what was kept before it, and the step's buffer
+abbrev pub Keeping : Type 0
+Keeping = Figures → ℕ → List ℕ → List ℕ → List ℕ
+
+-- of each step's buffer the word that it stores; the five stores after the data words add nothing
+unfoldable pub wordByWord : Keeping
+wordByWord f made bytes buffer = cond (ltb made (f .size / 4)) (bytes ++ take 4 (drop (4 * made) buffer)) bytes
+
+-- the buffer of the latest step
+abbrev pub lastBuffer : Keeping
+lastBuffer f made bytes buffer = buffer
+
 -- ---- what an accepted call changes
 
--- one more store: at the last, the map word, the sector holds the bytes and the lane is idle
-abbrev pub stepped : Figures → Row → ℕ → List ℕ → Flight → Row
-stepped f row l buffer idle = row
-stepped f row l buffer (flying s made bytes) =
-    cond (eqb (made + 1) (storesOf f))
-    (record { sector = put (row .sector) s (holds buffer); lane = put (row .lane) l idle })
-    (record { sector = row .sector; lane = put (row .lane) l (flying s (made + 1) buffer) })
+module _ (keep : Keeping) where
+  -- one more store: at the last, the map word, the sector holds the bytes and the lane is idle
+  abbrev pub stepped : Figures → Row → ℕ → List ℕ → Flight → Row
+  stepped f row l buffer idle = row
+  stepped f row l buffer (flying s made bytes) =
+      cond (eqb (made + 1) (storesOf f))
+      (record { sector = put (row .sector) s (holds (keep f made bytes buffer)); lane = put (row .lane) l idle })
+      (record { sector = row .sector; lane = put (row .lane) l (flying s (made + 1) (keep f made bytes buffer)) })
 
-abbrev pub changed : Figures → Row → Call → Row
-changed f row (read s buffer) = row
-changed f row (start l s) = record { sector = row .sector; lane = put (row .lane) l (flying s 0 []) }
-changed f row (step l buffer) = stepped f row l buffer (row .lane l)
-changed f row (write l s buffer) = record { sector = put (row .sector) s (holds buffer); lane = row .lane }
+  abbrev pub changed : Figures → Row → Call → Row
+  changed f row (read s buffer) = row
+  changed f row (start l s) = record { sector = row .sector; lane = put (row .lane) l (flying s 0 []) }
+  changed f row (step l buffer) = stepped f row l buffer (row .lane l)
+  changed f row (write l s buffer) = record { sector = put (row .sector) s (holds buffer); lane = row .lane }
 
-unfoldable pub rowAfter : Figures → Row → Call → Row
-rowAfter f row c = cond (eqb (rowNumber f row c) 0) (changed f row c) row
+  unfoldable pub rowAfter : Figures → Row → Call → Row
+  rowAfter f row c = cond (eqb (rowNumber f row c) 0) (changed f row c) row
 
 -- ---- openings: the writes that lack only their map word are finished, and the others are dropped
 
@@ -176,10 +191,6 @@ rowOpenTests f room notValid = false
 unfoldable pub rowOpenNumber : Figures → ℕ → ℕ
 rowOpenNumber f room = answer numberOpen (rowOpenTests f room) orderOpen
 
-unfoldable pub rowAfterEvent : Figures → Row → Event → Row
-rowAfterEvent f row (called c) = rowAfter f row c
-rowAfterEvent f row (opened work) = cond (eqb (rowOpenNumber f (length work)) 0) (reopened f row) row
-
 unfoldable pub rowReplyEvent : Figures → Row → Event → Reply
 rowReplyEvent f row (called c) = rowReply f row c
 rowReplyEvent f row (opened work) =
@@ -188,13 +199,20 @@ rowReplyEvent f row (opened work) =
     (record { number = n; buffer = replicate (f .blocks) 0 ++ drop (f .blocks) work; mended = lacking f row (f .lanes) })
     (record { number = n; buffer = work; mended = 0 })
 
-abbrev pub rowAfterAll : Figures → Row → List Event → Row
-rowAfterAll f row es = runs (rowAfterEvent f) row es
+-- ---- lists of calls and openings
 
-abbrev pub rowReplies : Figures → Row → List Event → List Reply
-rowReplies f row es = says (rowAfterEvent f) (rowReplyEvent f) row es
+module _ (keep : Keeping) where
+  unfoldable pub rowAfterEvent : Figures → Row → Event → Row
+  rowAfterEvent f row (called c) = rowAfter keep f row c
+  rowAfterEvent f row (opened work) = cond (eqb (rowOpenNumber f (length work)) 0) (reopened f row) row
 
--- ---- each write is handed the same bytes throughout
+  abbrev pub rowAfterAll : Figures → Row → List Event → Row
+  rowAfterAll f row es = runs (rowAfterEvent f) row es
+
+  abbrev pub rowReplies : Figures → Row → List Event → List Reply
+  rowReplies f row es = says (rowAfterEvent f) (rowReplyEvent f) row es
+
+-- ---- each write is handed the same bytes throughout: the buffer of its latest step, once it has made a store
 
 abbrev pub SameFlight : List ℕ → Flight → Type 0
 SameFlight buffer idle = Unit {0}
@@ -209,7 +227,7 @@ SameBuffer f row (opened work) = Unit {0}
 
 abbrev pub OneBuffer : Figures → Row → List Event → Type 0
 OneBuffer f row [] = Unit {0}
-OneBuffer f row (e ∷ es) = SameBuffer f row e × OneBuffer f (rowAfterEvent f row e) es
+OneBuffer f row (e ∷ es) = SameBuffer f row e × OneBuffer f (rowAfterEvent lastBuffer f row e) es
 
 -- ---- the row that an arena begins with: what reads give, and all lanes idle
 
