@@ -88,8 +88,11 @@ module _ (τ : Told) (told : ToldOk τ) where
     stepsMade n = stepsOf n ((startOf a h l s) .arena) ((startOf a h l s) .handle) l buffer
 
     -- after n steps: the write is in flight, and keeps the buffer's first words
+    abbrev flownTo : ℕ → Row
+    flownTo n = flown row l s n (take (4 * n) buffer)
+
     abbrev Along : ℕ → Type 0
-    Along n = RepAfter τ (flown row l s n (take (4 * n) buffer)) (stepsMade n)
+    Along n = RepAfter τ (flownTo n) (stepsMade n)
 
     found : WriteFound a h l s buffer
     found = write-found a h l s buffer e
@@ -116,10 +119,9 @@ module _ (τ : Told) (told : ToldOk τ) where
     begun = rw (sym (number-is τ told row a h k (start l s)) ∙ found .start) at (start-rep row a h k l s)
 
     -- one step of the write
-    one : (n : ℕ) → Along n
-        → RepAfter τ (rowAfter wordByWord ((stepsMade n) .handle .figures) (flown row l s n (take (4 * n) buffer)) (step l buffer)) (stepsMade (suc n))
+    one : (n : ℕ) → Along n → RepAfter τ (rowAfter wordByWord ((stepsMade n) .handle .figures) (flownTo n) (step l buffer)) (stepsMade (suc n))
     unfolding stepsOf
-    one n r = step-rep (flown row l s n (take (4 * n) buffer)) ((stepsMade n) .arena) ((stepsMade n) .handle) r l buffer small
+    one n r = step-rep (flownTo n) ((stepsMade n) .arena) ((stepsMade n) .handle) r l buffer small
 
     -- what it leaves of the buffer's first words
     grown : (n : ℕ) → wordByWord ((stepsMade n) .handle .figures) n (take (4 * n) buffer) buffer ≡ take (4 * suc n) buffer
@@ -127,19 +129,15 @@ module _ (τ : Told) (told : ToldOk τ) where
         ∙ ap (λ (m : ℕ). take (4 * m) buffer) (add-one n))
 
     more : (n : ℕ) → n < g .W + 4 → Along n → Along (suc n)
-    more n u r = rep-same τ told (flown (flown row l s n bytes) l s (suc n) (take (4 * suc n) buffer)) (flown row l s (suc n) (take (4 * suc n) buffer)) _ _
-        (λ j _. put-twice (row .lane) l (flying s n bytes) (flying s (suc n) (take (4 * suc n) buffer)) j) (λ _ _. refl) moved
+    more n u r = rep-same τ told (flown (flownTo n) l s (suc n) (take (4 * suc n) buffer)) (flownTo (suc n)) _ _
+        (λ j _. put-twice (row .lane) l (flying s n (take (4 * n) buffer)) (flying s (suc n) (take (4 * suc n) buffer)) j) (λ _ _. refl) moved
       where
-        bytes : List ℕ
-        bytes = take (4 * n) buffer
-
         t : eqb n ((laidOut ((stepsMade n) .handle)) .W + 4) ≡ false
         t = rw (distance-kept n, figures-kept n) (ne-eqb n (g .W + 4) (λ d. omega arith))
 
-        moved : RepAfter τ (flown (flown row l s n (take (4 * n) buffer)) l s (suc n) (take (4 * suc n) buffer)) (stepsMade (suc n))
+        moved : RepAfter τ (flown (flownTo n) l s (suc n) (take (4 * suc n) buffer)) (stepsMade (suc n))
         moved = subst (λ (x : Row). RepAfter τ x (stepsMade (suc n)))
-            (flown-more _ _ row l s n (take (4 * n) buffer) buffer (lane-in n) (size-is n) t
-            ∙ ap (flown (flown row l s n (take (4 * n) buffer)) l s (suc n)) (grown n)) (one n r)
+            (flown-more _ _ row l s n (take (4 * n) buffer) buffer (lane-in n) (size-is n) t ∙ ap (flown (flownTo n) l s (suc n)) (grown n)) (one n r)
 
     along : (n : ℕ) → n ≤ g .W + 4 → Along n
     along zero u = begun
@@ -158,9 +156,10 @@ module _ (τ : Told) (told : ToldOk τ) where
     whole : RepAfter τ written (stepsMade (writeStores g))
     whole = let c : suc m ≡ writeStores g = omega arith in
         subst (λ (n : ℕ). RepAfter τ written (stepsMade n)) c
-        (rep-same τ told landed written _ _ (λ j _. calm j (flying s m (take (4 * m) buffer))) (λ _ _. refl)
+        (rep-same τ told (landed buffer) written _ _ (λ j _. calm j (flying s m (take (4 * m) buffer))) (λ _ _. refl)
         (subst (λ (x : Row). RepAfter τ x (stepsMade (suc m)))
-        (flown-last _ _ row l s m (take (4 * m) buffer) buffer (lane-in m) (size-is m) t ∙ ap land (grown m ∙ all)) (one m (along m (omega arith)))))
+        (flown-last _ _ row l s m (take (4 * m) buffer) buffer (lane-in m) (size-is m) t ∙ ap landed (grown m ∙ all))
+        (one m (along m (omega arith)))))
       where
         m : ℕ
         m = g .W + 4
@@ -168,12 +167,9 @@ module _ (τ : Told) (told : ToldOk τ) where
         t : eqb (g .W + 4) ((laidOut ((stepsMade (g .W + 4)) .handle)) .W + 4) ≡ true
         t = rw (distance-kept (g .W + 4), figures-kept (g .W + 4)) (eq-eqb (g .W + 4) (g .W + 4) refl)
 
-        -- the map word is stored, of what was kept
-        land : List ℕ → Row
-        land bytes = record { sector = put (row .sector) s (holds bytes); lane = put (put (row .lane) l (flying s (g .W + 4) (take (4 * (g .W + 4)) buffer))) l idle }
-
-        landed : Row
-        landed = land buffer
+        -- with the map word stored, of the bytes that are kept
+        landed : List ℕ → Row
+        landed bytes = record { sector = put (row .sector) s (holds bytes); lane = put ((flownTo (g .W + 4)) .lane) l idle }
 
         all : take (4 * suc (g .W + 4)) buffer ≡ buffer
         all = take-all (4 * suc (g .W + 4)) buffer (omega (arith, held-whole τ told a h (k .held), found .size))

@@ -34,7 +34,19 @@ use Rattle.machine.specs.calls.History.{
   SmallCall,
   SmallEvent,
 }
-use Rattle.machine.specs.models.Row.{idle, Row, wordByWord, rowNumber, rowReply, rowAfter, lacking, reopened, rowOpenNumber, rowAfterEvent, rowReplyEvent}
+use Rattle.machine.specs.models.Row.{
+  idle,
+  Row,
+  wordByWord,
+  rowNumber,
+  rowReply,
+  rowAfter,
+  lacking,
+  reopened,
+  rowOpenNumber,
+  rowAfterEvent,
+  rowReplyEvent,
+}
 use Rattle.machine.proofs.opening.Described.{Described}
 use Rattle.machine.proofs.opening.Opens.{some-number-open, open-number, opened-idle}
 use Rattle.machine.proofs.rules.Rules.{first-zero}

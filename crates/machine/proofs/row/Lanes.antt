@@ -44,7 +44,8 @@ module _ (P : ℕ → Flight → Type 0) where
         → EachLane (stepped lastBuffer f row l buffer v)
     step-each row l buffer p idle q = q
     step-each row l buffer p (flying s made old) q =
-        either (eqb (made + 1) (storesOf f)) _ _ (with-lane row l idle (resting l) q) (with-lane row l (flying s (made + 1) buffer) (p s (made + 1)) q)
+        either (eqb (made + 1) (storesOf f)) _ _ (with-lane row l idle (resting l) q)
+        (with-lane row l (flying s (made + 1) buffer) (p s (made + 1)) q)
 
     changed-each : (row : Row) (c : Call) → ((l : ℕ) (buffer : List ℕ) → c ≡ step l buffer → (s made : ℕ) → P l (flying s made buffer))
         → EachLane row → EachLane (changed lastBuffer f row c)

@@ -118,7 +118,8 @@ module _ (f : Figures) (row : Row) where
   tests-alike (noSuchLane l) = refl
   tests-alike (laneBusy l) = flying-first (row .lane l)
   tests-alike (laneIdle l) = ap not (flying-first (row .lane l))
-  tests-alike (sectorBusy s) = some-same (f .lanes) (λ j. fliesTo s (first (row .lane j))) (λ j. fliesTo s (row .lane j)) (λ j _. to-first s (row .lane j))
+  tests-alike (sectorBusy s) =
+      some-same (f .lanes) (λ j. fliesTo s (first (row .lane j))) (λ j. fliesTo s (row .lane j)) (λ j _. to-first s (row .lane j))
   tests-alike (badMapWord s) = refl
   tests-alike (badSector s) = refl
 
@@ -183,7 +184,8 @@ module _ (f : Figures) (whole : f .size ≡ 4 * (f .size / 4)) where
     step-alike l buffer size idle same = refl
     step-alike l buffer size (flying s made bytes) same = rw (grown made bytes buffer size same) (by-bool (eqb (made + 1) (storesOf f)) _
         (λ t. let e : made + 1 ≡ storesOf f = eqb-true _ _ t in
-        rw t (same-row (ap (λ (b : List ℕ). put (row .sector) s (holds b)) (all-kept (made + 1) buffer (omega arith) size)) (put-first (row .lane) l idle)))
+        rw t (same-row (ap (λ (b : List ℕ). put (row .sector) s (holds b)) (all-kept (made + 1) buffer (omega arith) size))
+        (put-first (row .lane) l idle)))
         (λ t. rw t (same-row refl (put-first (row .lane) l (flying s (made + 1) buffer)))))
 
     changed-alike : (c : Call) → rowNumber f row c ≡ 0 → SameBuffer f row (called c)
@@ -216,7 +218,8 @@ module _ (f : Figures) (whole : f .size ≡ 4 * (f .size / 4)) where
           (λ t. rw t (same-row (settled-alike (f .lanes)) refl)) (λ t. rw t)
 
       event-sized : (e : Event) → EachLane (λ _. Sized f) (rowAfterEvent lastBuffer f row e)
-      event-sized e = event-each (λ _. Sized f) (λ l. tt) (λ l s u. absurd (omega arith)) f row e (λ l buffer _ n s made u. step-size f row l buffer n) sized
+      event-sized e = event-each (λ _. Sized f) (λ l. tt) (λ l s u. absurd (omega arith)) f row e
+          (λ l buffer _ n s made u. step-size f row l buffer n) sized
 
   all-alike : (es : List Event) (row : Row) → EachLane (λ _. Sized f) row → OneBuffer f row es
       → (rowReplies wordByWord f (firsts row) es ≡ rowReplies lastBuffer f row es)

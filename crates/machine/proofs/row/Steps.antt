@@ -85,7 +85,12 @@ module _ (τ : Told) (told : ToldOk τ) where
     }
       where
         begun : Lent (h .distance) (h .figures) a (startedLane r s (mapBlock g a s)) []
-        begun = record { small = below-nil 256 (omega arith); part = λ _. refl; full = λ v. omega (arith, held-whole τ told a h (k .held)); words = λ x c _. absurd (omega arith) }
+        begun = record {
+          small = below-nil 256 (omega arith);
+          part = λ _. refl;
+          full = λ v. omega (arith, held-whole τ told a h (k .held));
+          words = λ x c _. absurd (omega arith);
+        }
 
     -- an accepted step: the store st, the record q, and the lane and the sectors of the row after it
     module _ (st : Store) (range : InRange g (st .place)) where
@@ -125,28 +130,34 @@ module _ (τ : Told) (told : ToldOk τ) where
     -- ---- the stores of an accepted step
 
     module _ (b : isBusy r ≡ true) (buffer : List ℕ) (small : Small buffer) (size : length buffer ≡ h .figures .size) where
-      flight : row .lane l ≡ flying (r .sector .0) (r .made) (k .lane l u .bytes)
+      -- what the write had before the step, and what it keeps after it
+      abbrev had : List ℕ
+      had = k .lane l u .bytes
+
+      abbrev bytes : List ℕ
+      bytes = wordByWord (h .figures) (r .made) had buffer
+
+      flight : row .lane l ≡ flying (r .sector .0) (r .made) had
       flight = k .lane l u .is ∙ rw b
 
-      lent : Lent (h .distance) (h .figures) a r (k .lane l u .bytes)
+      lent : Lent (h .distance) (h .figures) a r had
       lent = k .lane l u .lent b
-
-      -- what the write keeps after the step
-      abbrev bytes : List ℕ
-      bytes = wordByWord (h .figures) (r .made) (k .lane l u .bytes) buffer
 
       -- the words stored so far stay
       so-far : Filled g a (r .block .0) bytes (r .made)
       unfolding layoutOf
-      so-far x c d = lent .words x c d ∙ sym (kept-old (h .figures) (r .made) (k .lane l u .bytes) buffer (λ v. lent .part (omega arith)) x c)
+      so-far x c d = lent .words x c d ∙ sym (kept-old (h .figures) (r .made) had buffer (λ v. lent .part (omega arith)) x c)
+
+      bytes-small : Small bytes
+      bytes-small = kept-small (h .figures) (r .made) had buffer (lent .small) small
 
       part : r .made + 1 ≤ g .W → length bytes ≡ 4 * (r .made + 1)
       unfolding layoutOf
-      part v = kept-length (h .figures) (r .made) (k .lane l u .bytes) buffer (omega arith) (lent .part (omega arith)) size
+      part v = kept-length (h .figures) (r .made) had buffer (omega arith) (lent .part (omega arith)) size
 
-      done : g .W ≤ r .made → bytes ≡ k .lane l u .bytes
+      done : g .W ≤ r .made → bytes ≡ had
       unfolding layoutOf
-      done v = kept-done (h .figures) (r .made) (k .lane l u .bytes) buffer (omega arith)
+      done v = kept-done (h .figures) (r .made) had buffer (omega arith)
 
       full : g .W ≤ r .made + 1 → length bytes ≡ h .figures .size
       full v = go (decLt (r .made) (g .W))
@@ -158,11 +169,7 @@ module _ (τ : Told) (told : ToldOk τ) where
       -- one store more, not the last
       more : (a′ : List ℕ) → Filled g a′ (r .block .0) bytes (r .made + 1)
           → LaneAs (h .distance) (h .figures) a′ (storedLane r) (flying (r .sector .0) (r .made + 1) bytes)
-      more a′ w = record {
-        bytes = bytes;
-        is = rw b;
-        lent = λ _. record { small = kept-small (h .figures) (r .made) (k .lane l u .bytes) buffer (lent .small) small; part = part; full = full; words = w };
-      }
+      more a′ w = record { bytes = bytes; is = rw b; lent = λ _. record { small = bytes-small; part = part; full = full; words = w } }
 
       abbrev Next : Row
       Next = record { sector = row .sector; lane = put (row .lane) l (flying (r .sector .0) (r .made + 1) bytes) }
@@ -183,7 +190,7 @@ module _ (τ : Told) (told : ToldOk τ) where
           fits = record { range = (i .lane l u .block-in, c); small = word-lt buffer (r .made) small }
 
           added : word bytes (r .made) ≡ word buffer (r .made)
-          added = unfold layoutOf in (kept-new (h .figures) (r .made) (k .lane l u .bytes) buffer c (lent .part (omega arith)))
+          added = unfold layoutOf in (kept-new (h .figures) (r .made) had buffer c (lent .part (omega arith)))
 
           block-no : {x y x′ y′ : ℕ} → inData x y ≡ inData x′ y′ → x ≡ x′
           block-no e = cc
@@ -241,8 +248,7 @@ module _ (τ : Told) (told : ToldOk τ) where
               → put (row .sector) (r .sector .0) (holds bytes) t ≡ contentOf (h .distance) (h .figures) (stored g (finalStore r) a) t
           content t v (yes e) = rw (e, eq-eqb s s refl)
               (sym (content-mapped (h .distance) (h .figures) (i .ok) (held-whole τ told a h (k .held)) _ (stored-arena g (i .ok) a st (i .arena)) s
-              (r .block .0) (i .lane l u .block-in) (stored-word g (i .ok) a st (i .arena) fits) bytes
-              (kept-small (h .figures) (r .made) (k .lane l u .bytes) buffer (lent .small) small) (full (omega arith))
+              (r .block .0) (i .lane l u .block-in) (stored-word g (i .ok) a st (i .arena) fits) bytes bytes-small (full (omega arith))
               (filled st (fits .range) bytes _ _ so-far (λ x p q w. absurd (omega arith)) (λ x _. no-block _ x))))
           content t v (no n) = rw (ne-eqb t s n) (kept st (fits .range) t v (λ e. n (cc)) (no-block _))
 

@@ -28,7 +28,8 @@ module _ (f : Figures) (made : ℕ) (bytes buffer : List ℕ) where
   pub kept-small : Small bytes → Small buffer → Small (wordByWord f made bytes buffer)
   unfolding wordByWord
   kept-small p q = by-bool (ltb made (f .size / 4)) _
-      (λ t. rw t (below-append 256 bytes (own made buffer) p (below-take 256 4 (drop (4 * made) buffer) (omega arith) (below-drop 256 (4 * made) buffer q))))
+      (λ t. rw t (below-append 256 bytes (own made buffer) p
+      (below-take 256 4 (drop (4 * made) buffer) (omega arith) (below-drop 256 (4 * made) buffer q))))
       (λ t. rw t p)
 
   -- the words stored before the step stay
@@ -46,7 +47,8 @@ module _ (f : Figures) (made : ℕ) (bytes buffer : List ℕ) where
       (first-left (bytes ++ own made buffer) made ∙ ap (λ (y : List ℕ). word y 0) (drop-at bytes (own made buffer) (4 * made) long)
       ∙ word-take (drop (4 * made) buffer) 4 0 (omega arith) ∙ sym (first-left buffer made))
 
-  pub kept-length : made < f .size / 4 → length bytes ≡ 4 * made → length buffer ≡ f .size → length (wordByWord f made bytes buffer) ≡ 4 * (made + 1)
+  pub kept-length : made < f .size / 4 → length bytes ≡ 4 * made → length buffer ≡ f .size
+      → length (wordByWord f made bytes buffer) ≡ 4 * (made + 1)
   unfolding wordByWord
   kept-length u long size = rw (lt-ltb made (f .size / 4) u)
       (let e : length (own made buffer) ≡ 4 = length-take-le 4 (drop (4 * made) buffer) (rw length-drop (omega arith)) in
@@ -63,4 +65,5 @@ module _ (f : Figures) (whole : f .size ≡ 4 * (f .size / 4)) (buffer : List �
   unfolding wordByWord
   kept-same n = by-bool (ltb n (f .size / 4)) _
       (λ t. let e : 4 * n + 4 ≡ 4 * (n + 1) = omega arith in rw t (sym (take-add (4 * n) 4 buffer) ∙ ap (λ (m : ℕ). take m buffer) e))
-      (λ t. let u : f .size / 4 ≤ n = ltb-false _ _ t in rw t (take-all (4 * n) buffer (omega arith) ∙ sym (take-all (4 * (n + 1)) buffer (omega arith))))
+      (λ t. let u : f .size / 4 ≤ n = ltb-false _ _ t in
+      rw t (take-all (4 * n) buffer (omega arith) ∙ sym (take-all (4 * (n + 1)) buffer (omega arith))))
