@@ -1,6 +1,6 @@
 -- A history in which every step on a lane lends that lane's bytes: each write is handed the same bytes throughout. What is in flight on a
 -- lane either has no store yet or has the lane's bytes, and every event keeps that.
-use mathlib.Core.Path.{_≡_, refl, sym, subst}
+use mathlib.Core.Path.{refl, sym, subst}
 use mathlib.Core.List.{List, [], _∷_, List·Memᴰ, List·Memᴰ·head, List·Memᴰ·tail}
 use Prim.Native.Nat.{ℕ}
 use native.Mathlib.Omega.{arith}

@@ -1,7 +1,7 @@
 -- Where each write is handed the same bytes throughout, the row that keeps its writes word by word and the row that keeps the latest
 -- buffer go together, event by event: of each write in flight the one has the first words of what the other has, and both answer, read
 -- and open alike. So what follows the one follows the other.
-use mathlib.Core.Path.{_≡_, refl, sym, ap, ap₂, _∙_}
+use mathlib.Core.Path.{_≡_, refl, ap, ap₂, _∙_}
 use mathlib.Core.List.{List, [], _∷_}
 use mathlib.Core.Bool.{not}
 use Prim.Native.Nat.{ℕ, zero, suc, _+_, _*_, _/_, _≤_, _<_}

@@ -131,9 +131,13 @@ rowReply f row (write l s buffer) = justNumber (rowNumber f row (write l s buffe
 abbrev pub Keeping : Type 0
 Keeping = Figures → ℕ → List ℕ → List ℕ → List ℕ
 
--- of each step's buffer the word that it stores; the five stores after the data words add nothing
+-- the word of its buffer that a step stores, with so many stores made before it
+unfoldable pub ownWord : ℕ → List ℕ → List ℕ
+ownWord made buffer = take 4 (drop (4 * made) buffer)
+
+-- of each step's buffer its own word; the five stores after the data words add nothing
 unfoldable pub wordByWord : Keeping
-wordByWord f made bytes buffer = cond (ltb made (f .size / 4)) (bytes ++ take 4 (drop (4 * made) buffer)) bytes
+wordByWord f made bytes buffer = cond (ltb made (f .size / 4)) (bytes ++ ownWord made buffer) bytes
 
 -- the buffer of the latest step
 abbrev pub lastBuffer : Keeping
