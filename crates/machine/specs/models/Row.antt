@@ -146,7 +146,7 @@ lastBuffer f made bytes buffer = buffer
 -- ---- what an accepted call changes
 
 module _ (keep : Keeping) where
-  -- one more store: at the last, the map word, the sector holds the bytes and the lane is idle
+  -- one more store: at the last, the map word, the sector holds what is kept and the lane is idle
   abbrev pub stepped : Figures → Row → ℕ → List ℕ → Flight → Row
   stepped f row l buffer idle = row
   stepped f row l buffer (flying s made bytes) =
