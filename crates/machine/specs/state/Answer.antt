@@ -19,6 +19,7 @@ use Rattle.machine.specs.declared.answer.Answer.the-variants.{
   LaneIdle,
   BadSector,
   BadHandle,
+  BadRecord,
 }
 
 abbrev pub numberOf : Answer → ℕ
@@ -39,3 +40,4 @@ numberOf SectorBusy = 13
 numberOf LaneIdle = 14
 numberOf BadSector = 15
 numberOf BadHandle = 16
+numberOf BadRecord = 20

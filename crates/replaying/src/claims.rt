@@ -1,0 +1,1 @@
+// The claims about a replay, each the contract of a function that does nothing.

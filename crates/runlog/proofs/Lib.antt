@@ -1,0 +1,5 @@
+pub mod Bytes
+pub mod Held
+pub mod Laws
+pub mod Logs
+pub mod Outcomes
