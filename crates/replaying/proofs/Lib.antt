@@ -1,3 +1,7 @@
+pub mod Claimed
+pub mod Follows
+pub mod Lent
+pub mod Noted
 pub mod Numbers
 pub mod Outcomes
 pub mod Packed

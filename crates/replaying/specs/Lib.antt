@@ -1,2 +1,4 @@
+pub mod Claims
 pub mod Gave
+pub mod Ledger
 pub mod Replay

@@ -1,5 +1,4 @@
 // Replays a run log on a lent arena: the first opening, then one call of the library for each record that the log's reader gives.
-use crate::run::is_refused;
 use crate::run::run_record;
 use arena::open::open;
 use machine::answer::Answer;
@@ -62,7 +61,7 @@ fn run_records(
     while at < log.len() {
         let taken = take(log, at);
         let found = taken.found;
-        if is_refused(found) {
+        if found.is_refused() {
             return Ran {
                 records: index,
                 stopped: true,

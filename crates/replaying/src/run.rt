@@ -16,7 +16,6 @@ ghost use Rattle.machine.specs.state.Answer.{numberOf};
 ghost use Rattle.machine.specs.state.Packed.{unpacked};
 ghost use Rattle.machine.specs.calls.Writing.{stepOf};
 ghost use Rattle.runlog.specs.Log.{maxLog};
-ghost use Rattle.runlog.specs.Record.{refuses};
 ghost use Rattle.writing.specs.Gave.{stepGave, packedOutcome};
 ghost use Rattle.replaying.specs.Replay.{wordsFor, stepBytes, ran, answered};
 ghost use Rattle.replaying.specs.Gave.{pointAt};
@@ -49,18 +48,6 @@ fn run_step(arena: &mut [u8], h: Handle, lane: LaneNo, index: u32) -> Stepped
         return step(arena, h, lane, &buffer[..size]);
     }
     step(arena, h, lane, &buffer[..])
-}
-
-// Whether a record is refused.
-pub fn is_refused(found: Record) -> bool
-    ensures { λ r. ⌜ r ≡ refuses found ⌝ }
-{
-    match found {
-        Record::Start(_, _) => false,
-        Record::Step(_) => false,
-        Record::Cut => false,
-        Record::Refused => true,
-    }
 }
 
 // The call that a record runs; a record that is refused runs none.

@@ -5,7 +5,7 @@ ghost use mathlib.Core.Path.{_≡_};
 ghost use Prim.Native.Nat.{_+_, _≤_, _<_};
 ghost use lib.ListN.{length};
 ghost use Rattle.words.specs.Bytes.{byteWord};
-ghost use Rattle.runlog.specs.Record.{byteHalf, recordAt, takenAt};
+ghost use Rattle.runlog.specs.Record.{byteHalf, refuses, recordAt, takenAt};
 
 // The longest log that is replayed.
 pub const MAX_LOG: usize = 8192;
@@ -20,6 +20,20 @@ pub enum Record {
     Cut,
     // 20: it is short, has another length than its kind, or an unknown kind.
     Refused,
+}
+
+impl Record {
+    // Whether no record stands there.
+    pub fn is_refused(self) -> bool
+        ensures { λ r. ⌜ r ≡ refuses self ⌝ }
+    {
+        match self {
+            Record::Start(_, _) => false,
+            Record::Step(_) => false,
+            Record::Cut => false,
+            Record::Refused => true,
+        }
+    }
 }
 
 // A record, and the offset after it.

@@ -23,13 +23,13 @@ first-left : (a : List ℕ) (k : ℕ) → word a k ≡ word (drop (4 * k) a) 0
 first-left a k = let e : k ≡ k + 0 = omega arith in ap (word a) e ∙ sym (word-drop a k 0)
 
 module _ (made : ℕ) (buffer : List ℕ) where
-  own-small : Small buffer → Small (ownWord made buffer)
-  unfolding ownWord
-  own-small p = below-take 256 4 (drop (4 * made) buffer) (omega arith) (below-drop 256 (4 * made) buffer p)
-
   own-word : word (ownWord made buffer) 0 ≡ word buffer made
   unfolding ownWord
   own-word = word-take (drop (4 * made) buffer) 4 0 (omega arith) ∙ sym (first-left buffer made)
+
+  own-small : Small buffer → Small (ownWord made buffer)
+  unfolding ownWord
+  own-small p = below-take 256 4 (drop (4 * made) buffer) (omega arith) (below-drop 256 (4 * made) buffer p)
 
   own-length : 4 * made + 4 ≤ length buffer → length (ownWord made buffer) ≡ 4
   unfolding ownWord
@@ -38,10 +38,6 @@ module _ (made : ℕ) (buffer : List ℕ) where
 -- ---- what is kept with it
 
 module _ (f : Figures) (made : ℕ) (bytes buffer : List ℕ) where
-  pub kept-small : Small bytes → Small buffer → Small (wordByWord f made bytes buffer)
-  unfolding wordByWord
-  kept-small p q = by-bool (ltb made (f .size / 4)) _ (λ t. rw t (below-append 256 bytes _ p (own-small made buffer q))) (λ t. rw t p)
-
   -- the words stored before the step stay
   pub kept-old : (made < f .size / 4 → length bytes ≡ 4 * made) → (x : ℕ) → x < made → word (wordByWord f made bytes buffer) x ≡ word bytes x
   unfolding wordByWord
@@ -56,6 +52,10 @@ module _ (f : Figures) (made : ℕ) (bytes buffer : List ℕ) where
   kept-new u long = rw (lt-ltb made (f .size / 4) u)
       (first-left (bytes ++ ownWord made buffer) made
       ∙ ap (λ (y : List ℕ). word y 0) (drop-at bytes (ownWord made buffer) (4 * made) long) ∙ own-word made buffer)
+
+  pub kept-small : Small bytes → Small buffer → Small (wordByWord f made bytes buffer)
+  unfolding wordByWord
+  kept-small p q = by-bool (ltb made (f .size / 4)) _ (λ t. rw t (below-append 256 bytes _ p (own-small made buffer q))) (λ t. rw t p)
 
   pub kept-length : made < f .size / 4 → length bytes ≡ 4 * made → length buffer ≡ f .size
       → length (wordByWord f made bytes buffer) ≡ 4 * (made + 1)

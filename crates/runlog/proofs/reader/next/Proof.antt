@@ -1,6 +1,6 @@
--- `reader::next` meets its contract, by a walk of its MIR: the log and the place are copied out of the reader, and `taken_at` is called on them.
--- What a reader owns can be had twice: one stays with the parameter, and of the other the log's part goes to the callee with the lifetime's
--- token, which comes back. Of `taken_at` only its contract is known.
+-- `reader::next` meets its contract, by a walk of its MIR: the log and the place are copied out of the reader, and `taken_at` is called on
+-- them. What a reader owns can be had twice: one stays with the parameter, and of the other the log's part goes to the callee with the
+-- lifetime's token, which comes back. Of `taken_at` only its contract is known.
 use mathlib.Core.Path.{_≡_, refl}
 use Prim.Native.Nat.{_<_, _^_}
 use mathlib.Core.List.{[], _∷_}

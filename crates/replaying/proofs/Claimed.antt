@@ -1,0 +1,223 @@
+-- The claim about a replay: the first opening stands for the row that the arena begins with and a ledger without lines, the records keep
+-- that, and what the row holds is read.
+use mathlib.Core.Path.{_≡_, refl, sym, ap, _∙_, subst}
+use mathlib.Core.Logic.{⊎-elim, inl}
+use mathlib.Core.Bool.{true, false}
+use mathlib.Core.List.{List, [], _∷_, _++_, map}
+use Prim.Native.Nat.{ℕ, zero, suc, _+_, _-_, _*_, _/_, _≤_, _<_}
+use native.Mathlib.Omega.{arith}
+use native.Mathlib.Decide.{decLe}
+use lib.Dec.{leb}
+use lib.ListN.{length, drop, replicate, length-append, length-replicate}
+use lib.Seq.{drop-at}
+use borrow.Author.Tests.{leb-true, leb-false, le-ltb}
+use Rattle.words.specs.Word.{word}
+use Rattle.words.specs.Bytes.{Small}
+use Rattle.format.proofs.Below.{below-append, below-replicate, below-drop}
+use Rattle.format.proofs.Tests.{by-bool}
+use Rattle.layout.specs.Figures.{maxSize}
+use Rattle.layout.specs.Place.{layoutOf}
+use Rattle.layout.specs.Told.{alone}
+use Rattle.layout.specs.declared.Figures.{Figures}
+use Rattle.machine.specs.Rules.{answer}
+use Rattle.machine.specs.state.Handle.{Handle}
+use Rattle.machine.specs.calls.Opening.{figuresIn, openOf}
+use Rattle.machine.specs.calls.Reading.{Read, readOf}
+use Rattle.machine.specs.calls.History.{State, Reply, opened, openedState, afterEvent, replyEvents, runEvents, openedFrom}
+use Rattle.machine.specs.models.Row.{Sector, holds, Row, storesOf, wordByWord, rowNumber, rowRead, rowOpenNumber, rowAfterEvent, firstRow, reopened}
+use Rattle.machine.proofs.opening.Described.{told-alone, described-figures}
+use Rattle.machine.proofs.opening.Opening.{opening-claim}
+use Rattle.machine.proofs.opening.Opens.{open-zero, opened-figures, opened-idle}
+use Rattle.machine.proofs.calls.Packing.{packing-claim}
+use Rattle.machine.proofs.invariant.Held.{held-open, held-whole}
+use Rattle.machine.proofs.invariant.Histories.{alike-open}
+use Rattle.machine.proofs.row.Answers.{read-is}
+use Rattle.machine.proofs.row.Reads.{readBy, read-holds}
+use Rattle.machine.proofs.row.Events.{RepIn, accepted, event-rep}
+use Rattle.machine.proofs.row.Follows.{first-rep}
+use Rattle.runlog.specs.Record.{lengthOf, refuses, recordAt}
+use Rattle.runlog.specs.Log.{maxLog, logOf, upTo}
+use Rattle.runlog.specs.Claims.{AllFit}
+use Rattle.runlog.specs.declared.record.Record.{Record}
+use Rattle.runlog.proofs.Logs.{log-claim}
+use Rattle.replaying.specs.Replay.{Point, Replay, openedPoint, runAll, answersAll, replayFrom, replayOf}
+use Rattle.replaying.specs.Ledger.{Written, asOpened, by, Ledger, noLines, cutNoted, allNoted}
+use Rattle.replaying.specs.Claims.{CutsOpen, SectorReads, ReadsBy, numbers, last, events, ReplayFor, ReplayClaim}
+use Rattle.replaying.proofs.Noted.{Full, SectorNoted, Noted, reopened-noted}
+use Rattle.replaying.proofs.Follows.{stateOf, Cleared, Sized, Stands, Followed, follow}
+
+-- ---- the records of a log
+
+few-records : (n : ℕ) (log : List ℕ) (at : ℕ) → length ((upTo n log at) .records) ≤ n
+unfolding upTo
+few-records zero log at = omega arith
+few-records (suc n) log at = by-bool (leb (length log) at) _
+    (λ t. rw t (omega arith))
+    (λ t. rw t (by-bool (refuses (recordAt log at)) _
+    (λ e. rw e (omega arith))
+    (λ e. rw e (omega (arith, few-records n log (at + lengthOf (recordAt log at)))))))
+
+count-records : (log : List ℕ) → 0 + length ((logOf log) .records) ≤ 8193
+unfolding logOf
+count-records log = by-bool (leb (length log) maxLog) _
+    (λ t. rw t (omega (arith, leb-true (length log) maxLog t, few-records (suc (length log - 0)) log 0))) (λ t. rw t (omega arith))
+
+fit-records : (log : List ℕ) → Small log → AllFit ((logOf log) .records)
+fit-records log small = by-bool (leb (length log) maxLog) _
+    (λ t. log-claim .every log small (leb-true _ _ t) .0)
+    (λ t. rw (log-claim .longer log (leb-false _ _ t)) (unfold AllFit in tt))
+
+-- ---- reading
+
+-- a read of the row goes by the sector alone
+row-read : (f : Figures) (row : Row) (s : ℕ) (buffer : List ℕ) → rowRead f row s buffer ≡ readBy f (row .sector s) s buffer
+unfolding rowRead rowNumber answer
+row-read f row s buffer = refl
+
+module _ (f : Figures) (z : Sized f) where
+  -- what a sector holds, against what the ledger says of it
+  sector-reads : (c₀ c : Sector) (k : Written) → SectorNoted f (z .whole) c₀ c k → (s : ℕ) (buffer : List ℕ) → s < f .sectors → length buffer ≡ f .size
+      → SectorReads (f .size) (readBy f c₀ s buffer) (readBy f c s buffer) k
+  unfolding word
+  sector-reads c₀ c asOpened n s buffer u v = ap (λ (d : Sector). readBy f d s buffer) n
+  sector-reads c₀ c (by is) n s buffer u v =
+      rw (n .holds, read-holds f (n .bytes) s buffer u v) (record { number = refl; bytes = n .size; words = λ k w. n .words k w w })
+
+  -- an arena and handle that a row stands for, against the first
+  reads-by : (x y : State) (row₀ row : Row) (k : Ledger) → x .handle .figures ≡ f → y .handle .figures ≡ f → RepIn alone row₀ x → RepIn alone row y
+      → Noted f (z .whole) row₀ row k → (s : ℕ) (buffer : List ℕ) → s < f .sectors → length buffer ≡ f .size
+      → SectorReads (f .size) (readOf (x .arena) (x .handle) s buffer) (readOf (y .arena) (y .handle) s buffer) (k .sector s)
+  reads-by x y row₀ row k g g′ r r′ n s buffer u v =
+      rw (read-is alone told-alone row₀ (x .arena) (x .handle) r s buffer, read-is alone told-alone row (y .arena) (y .handle) r′ s buffer, g, g′)
+      (rw (row-read f row₀ s buffer, row-read f row s buffer) (sector-reads (row₀ .sector s) (row .sector s) (k .sector s) (n .sector s) s buffer u v))
+
+-- ---- the first opening
+
+module _ (a work : List ℕ) (small : Small a) (small-work : Small work) (e : (openOf alone a work) .number ≡ 0) where
+  abbrev first : State
+  first = openedFrom alone a work
+
+  abbrev f : Figures
+  f = first .handle .figures
+
+  figures-are : f ≡ figuresIn a
+  figures-are = opened-figures alone told-alone a work e
+
+  rep₀ : RepIn alone (firstRow first) first
+  rep₀ = first-rep alone told-alone first (held-open alone told-alone a work small e) (opened-idle alone told-alone a work e)
+
+  room : (figuresIn a) .blocks ≤ length work
+  room = unfold layoutOf in (opening-claim alone told-alone .answers a work small .accepts e .1)
+
+  sized : Sized f
+  sized = record {
+    whole = unfold layoutOf in (held-whole alone told-alone (first .arena) (first .handle) (rep₀ .held));
+    size =
+        let d = open-zero alone told-alone a (length work) (unfold openOf in e) .0 .info in
+        rw figures-are (⊎-elim (λ h. omega arith) (λ h. omega arith) (described-figures alone told-alone a d .size));
+  }
+
+  cleared : Cleared f ((openOf alone a work) .work)
+  cleared = rw (figures-are, work-is) (record {
+    small = below-append 256 (replicate n 0) (drop n work) (below-replicate 256 n 0 (omega arith)) (below-drop 256 n work small-work);
+    room = omega (arith, length-append (replicate n 0) (drop n work), length-replicate {A = ℕ} n 0);
+    same = rw (drop-at (replicate {A = ℕ} n 0) (drop n work) n (length-replicate {A = ℕ} n 0));
+  })
+    where
+      n : ℕ
+      n = (figuresIn a) .blocks
+
+      work-is : (openOf alone a work) .work ≡ replicate ((figuresIn a) .blocks) 0 ++ drop ((figuresIn a) .blocks) work
+      work-is = unfold layoutOf in (opening-claim alone told-alone .work a work .cleared (inl e))
+
+  -- ---- the records of a log
+
+  module _ (log : List ℕ) (small-log : Small log) where
+    abbrev x : Point
+    x = openedPoint (openOf alone a work)
+
+    first-state : stateOf x ≡ first
+    first-state = ap (λ (h : Handle). record { arena = (openOf alone a work) .arena; handle = h }) (packing-claim .opened a work e)
+
+    first-figures : x .handle .figures ≡ f
+    first-figures = ap (λ (y : State). y .handle .figures) first-state
+
+    abbrev ran : List Record
+    ran = (logOf log) .records
+
+    followed : Followed (firstRow first) ((openOf alone a work) .work) f sized cleared 0 x ran noLines
+    followed = follow (firstRow first) ((openOf alone a work) .work) f sized cleared ran 0 x (firstRow first) noLines first-figures
+        (record {
+          rep = subst (λ (y : State). RepIn alone (firstRow first) y) (sym first-state) rep₀;
+          work = refl;
+          noted = record { lane = λ l. tt; sector = λ s. refl };
+        })
+        (fit-records log small-log) (count-records log)
+
+    replay-is : replayOf a work log ≡ replayFrom (logOf log) x
+    unfolding replayOf
+    replay-is = rw e
+
+    abbrev end : State
+    end = last a work log
+
+    last-is : stateOf (runAll 0 x ran) ≡ end
+    last-is = followed .state ∙ ap (λ (y : State). runEvents alone y (events a work log)) first-state
+
+    rep-last : RepIn alone (followed .row) end
+    rep-last = subst (λ (y : State). RepIn alone (followed .row) y) last-is (followed .stands .rep)
+
+    last-figures : end .handle .figures ≡ f
+    last-figures = ap (λ (y : State). y .handle .figures) (sym last-is) ∙ followed .figures
+
+    -- opened again
+    module _ (again : List ℕ) (u : (figuresIn a) .blocks ≤ length again) where
+      room-is : end .handle .figures .blocks ≤ length again
+      room-is = rw (last-figures, figures-are) u
+
+      opens : (openOf alone (end .arena) again) .number ≡ 0
+      opens = accepted alone told-alone (followed .row) end rep-last again room-is
+
+      opened-again : afterEvent alone end (opened again) ≡ openedFrom alone (end .arena) again
+      opened-again = rw opens
+
+      row-again : rowAfterEvent wordByWord (end .handle .figures) (followed .row) (opened again) ≡ reopened f (followed .row)
+      unfolding rowAfterEvent rowOpenNumber answer
+      row-again = rw (le-ltb _ _ room-is, last-figures)
+
+      rep-again : Small again → RepIn alone (reopened f (followed .row)) (openedFrom alone (end .arena) again)
+      rep-again q = subst (λ (y : State). RepIn alone (reopened f (followed .row)) y) opened-again
+          (subst (λ (y : Row). RepIn alone y (afterEvent alone end (opened again))) row-again (event-rep alone told-alone (followed .row) end rep-last (opened again) q))
+
+      again-figures : (openedFrom alone (end .arena) again) .handle .figures ≡ f
+      again-figures = alike-open alone told-alone end again (rep-last .held) opens .figures ∙ last-figures
+
+    -- the answers, and the ledger that they give
+    abbrev given : List ℕ
+    given = answersAll 0 x ran
+
+    numbers-are : numbers a work log ≡ given
+    numbers-are = ap (λ (p : Replay). p .numbers) replay-is
+
+    abbrev lines : List ℕ → Ledger
+    lines ns = allNoted (storesOf f) (f .lanes) noLines 0 ran ns
+
+    pub replay-for : ReplayFor a work log
+    replay-for = record {
+      answers = numbers-are
+          ∙ followed .numbers ∙ ap (λ (y : State). map (λ (r : Reply). r .number) (replyEvents alone y (events a work log))) first-state;
+      arena = rw replay-is (ap (λ (y : State). y .arena) last-is);
+      buffer = rw replay-is (followed .stands .work);
+      cuts = subst (CutsOpen ran) (sym numbers-are) (followed .cuts);
+      sectors = subst (λ (ns : List ℕ). ReadsBy first end ((lines ns) .sector)) (sym numbers-are)
+          (reads-by f sized first end (firstRow first) (followed .row) (lines given) refl last-figures rep₀ rep-last (followed .stands .noted));
+      opens = opens;
+      reopened = λ again q u. subst
+          (λ (ns : List ℕ). ReadsBy first (openedFrom alone (end .arena) again) ((cutNoted (storesOf f) (f .lanes) (lines ns)) .sector)) (sym numbers-are)
+          (reads-by f sized first (openedFrom alone (end .arena) again) (firstRow first) (reopened f (followed .row)) _ refl
+          (again-figures again u) rep₀ (rep-again again u q)
+          (reopened-noted f (sized .whole) (firstRow first) (followed .row) (lines given) (followed .stands .noted)));
+    }
+
+pub replay-claim : ReplayClaim
+replay-claim a work log small small-work small-log e = replay-for a work small small-work e log small-log
