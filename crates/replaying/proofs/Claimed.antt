@@ -24,7 +24,7 @@ use Rattle.machine.specs.state.Handle.{Handle}
 use Rattle.machine.specs.calls.Opening.{figuresIn, openOf}
 use Rattle.machine.specs.calls.Reading.{Read, readOf}
 use Rattle.machine.specs.calls.History.{State, Reply, opened, openedState, afterEvent, replyEvents, runEvents, openedFrom}
-use Rattle.machine.specs.models.Row.{Sector, holds, Row, storesOf, wordByWord, rowNumber, rowRead, rowOpenNumber, rowAfterEvent, firstRow, reopened}
+use Rattle.machine.specs.models.Row.{Sector, holds, Row, storesOf, wordByWord, rowNumber, rowRead, rowOpenNumber, rowAfterEvent, rowReplies, firstRow, reopened}
 use Rattle.machine.proofs.opening.Described.{told-alone, described-figures}
 use Rattle.machine.proofs.opening.Opening.{opening-claim}
 use Rattle.machine.proofs.opening.Opens.{open-zero, opened-figures, opened-idle}
@@ -145,7 +145,7 @@ module _ (a work : List ℕ) (small : Small a) (small-work : Small work) (e : (o
     abbrev ran : List Record
     ran = (logOf log) .records
 
-    followed : Followed (firstRow first) ((openOf alone a work) .work) f sized cleared 0 x ran noLines
+    followed : Followed (firstRow first) ((openOf alone a work) .work) f sized cleared 0 x ran (firstRow first) noLines
     followed = follow (firstRow first) ((openOf alone a work) .work) f sized cleared ran 0 x (firstRow first) noLines first-figures
         (record {
           rep = subst (λ (y : State). RepIn alone (firstRow first) y) (sym first-state) rep₀;
@@ -198,6 +198,10 @@ module _ (a work : List ℕ) (small : Small a) (small-work : Small work) (e : (o
 
     numbers-are : numbers a work log ≡ given
     numbers-are = ap (λ (p : Replay). p .numbers) replay-is
+
+    -- the same as the row answers
+    pub numbers-in-row : numbers a work log ≡ map (λ (r : Reply). r .number) (rowReplies wordByWord f (firstRow first) (events a work log))
+    numbers-in-row = numbers-are ∙ followed .in-row
 
     abbrev lines : List ℕ → Ledger
     lines ns = allNoted (storesOf f) (f .lanes) noLines 0 ran ns

@@ -37,7 +37,7 @@ use Rattle.machine.specs.calls.History.{
   replyEvents,
   SmallEvent,
 }
-use Rattle.machine.specs.models.Row.{Row, storesOf, wordByWord, rowNumber, rowReply, rowAfter, rowOpenNumber, rowReplyEvent, rowAfterEvent}
+use Rattle.machine.specs.models.Row.{Row, storesOf, wordByWord, rowNumber, rowReply, rowAfter, rowOpenNumber, rowReplyEvent, rowAfterEvent, rowReplies}
 use Rattle.machine.proofs.opening.Described.{told-alone}
 use Rattle.machine.proofs.calls.Packing.{packing-claim}
 use Rattle.machine.proofs.invariant.Histories.{alike-event}
@@ -171,8 +171,10 @@ module _ (row₀ : Row) (w : List ℕ) where
     abbrev from : ℕ → List Record → List Event
     from i rs = eventsOf (f .size) w i rs
 
-    pub record Followed (i : ℕ) (x : Point) (rs : List Record) (k : Ledger) : Type 0 where
+    -- all records, from a point that row₁ stands for
+    pub record Followed (i : ℕ) (x : Point) (rs : List Record) (row₁ : Row) (k : Ledger) : Type 0 where
       pub numbers : answersAll i x rs ≡ map (λ (y : Reply). y .number) (replyEvents alone (stateOf x) (from i rs))
+      pub in-row : answersAll i x rs ≡ map (λ (y : Reply). y .number) (rowReplies wordByWord f row₁ (from i rs))
       pub state : stateOf (runAll i x rs) ≡ runEvents alone (stateOf x) (from i rs)
       pub cuts : CutsOpen rs (answersAll i x rs)
       pub row : Row
@@ -180,28 +182,44 @@ module _ (row₀ : Row) (w : List ℕ) where
       pub figures : (runAll i x rs) .handle .figures ≡ f
 
     -- one record, where the figures are f
-    one-of : (i : ℕ) (x : Point) (row : Row) (k : Ledger) → x .handle .figures ≡ f → Stands f s x row k → i ≤ 8192 → (r : Record) → Fits r
-        → One f s i x r row k × RepIn alone (rowAfterEvent wordByWord f row (eventOf (f .size) w i r)) (afterEvent alone (stateOf x) (eventOf (f .size) w i r))
-    one-of i x row k g d u r p = subst
-        (λ (y : Figures). (t : Sized y) → Cleared y w → Stands y t x row k → SmallEvent (eventOf (y .size) w i r)
-        → One y t i x r row k × RepIn alone (rowAfterEvent wordByWord y row (eventOf (y .size) w i r)) (afterEvent alone (stateOf x) (eventOf (y .size) w i r))) g
-        (λ t v e small. (one x row k i t e v u r p, event-rep alone told-alone row (stateOf x) (e .rep) (eventOf (x .handle .figures .size) w i r) small))
+    record Next (i : ℕ) (x : Point) (row : Row) (k : Ledger) (r : Record) (y : Figures) (t : Sized y) : Type 0 where
+      one : One y t i x r row k
+      reply : replyEvent alone (stateOf x) (eventOf (y .size) w i r) ≡ rowReplyEvent y row (eventOf (y .size) w i r)
+      rep : RepIn alone (rowAfterEvent wordByWord y row (eventOf (y .size) w i r)) (afterEvent alone (stateOf x) (eventOf (y .size) w i r))
+
+    next-of : (i : ℕ) (x : Point) (row : Row) (k : Ledger) → x .handle .figures ≡ f → Stands f s x row k → i ≤ 8192 → (r : Record) → Fits r
+        → Next i x row k r f s
+    next-of i x row k g d u r p = subst
+        (λ (y : Figures). (t : Sized y) → Cleared y w → Stands y t x row k → SmallEvent (eventOf (y .size) w i r) → Next i x row k r y t) g
+        (λ t v e small.
+        let event = eventOf (x .handle .figures .size) w i r in
+        record {
+          one = one x row k i t e v u r p;
+          reply = event-reply alone told-alone row (stateOf x) (e .rep) event;
+          rep = event-rep alone told-alone row (stateOf x) (e .rep) event small;
+        })
         s c d (event-small f c i r p)
 
     pub follow : (rs : List Record) (i : ℕ) (x : Point) (row : Row) (k : Ledger) → x .handle .figures ≡ f → Stands f s x row k → AllFit rs
-        → i + length rs ≤ 8193 → Followed i x rs k
+        → i + length rs ≤ 8193 → Followed i x rs row k
     unfolding answersAll runAll eventsOf says runs CutsOpen allNoted AllFit
-    follow [] i x row k g d p u = record { numbers = refl; state = refl; cuts = tt; row = row; stands = d; figures = g }
+    follow [] i x row k g d p u = record { numbers = refl; in-row = refl; state = refl; cuts = tt; row = row; stands = d; figures = g }
     follow (r ∷ rs) i x row k g d p u =
         let e = eventOf (f .size) w i r in
-        let q = one-of i x row k g d (omega arith) r (p .0) in
-        let a = q .0 in
+        let q = next-of i x row k g d (omega arith) r (p .0) in
+        let a = q .one in
+        let row′ = rowAfterEvent wordByWord f row e in
         let g′ = ap (λ (y : State). y .handle .figures) (a .state) ∙ alike-event alone told-alone (stateOf x) e (d .rep .held) .figures ∙ g in
-        let d′ : Stands f s (ran i x r) (rowAfterEvent wordByWord f row e) (noted (storesOf f) (f .lanes) k i r (answered i x r)) =
-        record { rep = subst (λ (y : State). RepIn alone (rowAfterEvent wordByWord f row e) y) (sym (a .state)) (q .1); work = a .work; noted = a .noted } in
-        let h = follow rs (suc i) (ran i x r) (rowAfterEvent wordByWord f row e) (noted (storesOf f) (f .lanes) k i r (answered i x r)) g′ d′ (p .1) (omega arith) in
+        let d′ : Stands f s (ran i x r) row′ (noted (storesOf f) (f .lanes) k i r (answered i x r)) = record {
+          rep = subst (λ (y : State). RepIn alone row′ y) (sym (a .state)) (q .rep);
+          work = a .work;
+          noted = a .noted;
+        } in
+        let h = follow rs (suc i) (ran i x r) row′ (noted (storesOf f) (f .lanes) k i r (answered i x r)) g′ d′ (p .1) (omega arith) in
         record {
-          numbers = ap₂ {C = List ℕ} (λ n ns. n ∷ ns) (a .number) (h .numbers ∙ ap (λ (y : State). map (λ (z : Reply). z .number) (replyEvents alone y (from (suc i) rs))) (a .state));
+          numbers = ap₂ {C = List ℕ} (λ n ns. n ∷ ns) (a .number)
+              (h .numbers ∙ ap (λ (y : State). map (λ (z : Reply). z .number) (replyEvents alone y (from (suc i) rs))) (a .state));
+          in-row = ap₂ {C = List ℕ} (λ n ns. n ∷ ns) (a .number ∙ ap (λ (z : Reply). z .number) (q .reply)) (h .in-row);
           state = h .state ∙ ap (λ (y : State). runEvents alone y (from (suc i) rs)) (a .state);
           cuts = cuts-more r _ rs _ (a .opens) (h .cuts);
           row = h .row;

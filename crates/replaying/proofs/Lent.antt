@@ -20,7 +20,7 @@ unfolding rising
 rising-length i zero = refl
 rising-length i (suc n) = ap suc (rising-length (suc i) n)
 
-rising-at : (i n k : ℕ) → k < n → getD (rising i n) k 0 ≡ i + k
+pub rising-at : (i n k : ℕ) → k < n → getD (rising i n) k 0 ≡ i + k
 unfolding rising
 rising-at i zero k u = absurd (omega arith)
 rising-at i (suc n) zero u = omega arith

@@ -1,4 +1,6 @@
 pub mod Claimed
+pub mod Exhibit
+pub mod Flown
 pub mod Follows
 pub mod Lent
 pub mod Noted

@@ -1,4 +1,5 @@
 pub mod Claims
+pub mod Exhibit
 pub mod Gave
 pub mod Ledger
 pub mod Replay

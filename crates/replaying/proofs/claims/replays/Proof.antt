@@ -1,4 +1,4 @@
--- `claims::replays` meets its contract.
+-- `claims::replays` ensures the claim about replays, which is proved in `Claimed`.
 use Rattle.replaying.proofs.Claimed.{replay-claim}
 use Rattle.replaying.proofs.claims.replays.Statement.{statement}
 use Rattle.replaying.proofs.claims.replays.Tie as tie

@@ -1,4 +1,4 @@
--- `claims::steps` meets its contract.
+-- `claims::steps` ensures the claim about the sectors that steps lend, which is proved in `Lent`.
 use Rattle.replaying.proofs.Lent.{steps-claim}
 use Rattle.replaying.proofs.claims.steps.Statement.{statement}
 use Rattle.replaying.proofs.claims.steps.Tie as tie
