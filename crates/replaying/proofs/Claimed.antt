@@ -1,29 +1,27 @@
 -- The claim about a replay: the first opening stands for the row that the arena begins with and a ledger without lines, the records keep
 -- that, and what the row holds is read.
 use mathlib.Core.Path.{_≡_, refl, sym, ap, _∙_, subst}
-use mathlib.Core.Logic.{⊎-elim, inl}
+use mathlib.Core.Logic.{_≢_, ⊎-elim, inl}
 use mathlib.Core.Bool.{true, false}
 use mathlib.Core.List.{List, [], _∷_, _++_, map}
-use Prim.Native.Nat.{ℕ, zero, suc, _+_, _-_, _*_, _/_, _≤_, _<_}
+use Prim.Native.Nat.{ℕ, zero, suc, _+_, _-_, _≤_, _<_}
 use native.Mathlib.Omega.{arith}
-use native.Mathlib.Decide.{decLe}
 use lib.Dec.{leb}
 use lib.ListN.{length, drop, replicate, length-append, length-replicate}
 use lib.Seq.{drop-at}
-use borrow.Author.Tests.{leb-true, leb-false, le-ltb}
+use borrow.Author.Tests.{leb-true, leb-false, le-ltb, ne-eqb}
 use Rattle.words.specs.Word.{word}
 use Rattle.words.specs.Bytes.{Small}
 use Rattle.format.proofs.Below.{below-append, below-replicate, below-drop}
 use Rattle.format.proofs.Tests.{by-bool}
-use Rattle.layout.specs.Figures.{maxSize}
 use Rattle.layout.specs.Place.{layoutOf}
 use Rattle.layout.specs.Told.{alone}
 use Rattle.layout.specs.declared.Figures.{Figures}
 use Rattle.machine.specs.Rules.{answer}
 use Rattle.machine.specs.state.Handle.{Handle}
 use Rattle.machine.specs.calls.Opening.{figuresIn, openOf}
-use Rattle.machine.specs.calls.Reading.{Read, readOf}
-use Rattle.machine.specs.calls.History.{State, Reply, opened, openedState, afterEvent, replyEvents, runEvents, openedFrom}
+use Rattle.machine.specs.calls.Reading.{readOf}
+use Rattle.machine.specs.calls.History.{State, Reply, opened, afterEvent, replyEvents, runEvents, openedFrom}
 use Rattle.machine.specs.models.Row.{Sector, holds, Row, storesOf, wordByWord, rowNumber, rowRead, rowOpenNumber, rowAfterEvent, rowReplies, firstRow, reopened}
 use Rattle.machine.proofs.opening.Described.{told-alone, described-figures}
 use Rattle.machine.proofs.opening.Opening.{opening-claim}
@@ -40,11 +38,11 @@ use Rattle.runlog.specs.Log.{maxLog, logOf, upTo}
 use Rattle.runlog.specs.Claims.{AllFit}
 use Rattle.runlog.specs.declared.record.Record.{Record}
 use Rattle.runlog.proofs.Logs.{log-claim}
-use Rattle.replaying.specs.Replay.{Point, Replay, openedPoint, runAll, answersAll, replayFrom, replayOf}
+use Rattle.replaying.specs.Replay.{Point, Replay, openedPoint, ran, runAll, answersAll, replayFrom, replayOf}
 use Rattle.replaying.specs.Ledger.{Written, asOpened, by, Ledger, noLines, cutNoted, allNoted}
-use Rattle.replaying.specs.Claims.{CutsOpen, SectorReads, ReadsBy, numbers, last, events, ReplayFor, ReplayClaim}
-use Rattle.replaying.proofs.Noted.{Full, SectorNoted, Noted, reopened-noted}
-use Rattle.replaying.proofs.Follows.{stateOf, Cleared, Sized, Stands, Followed, follow}
+use Rattle.replaying.specs.Claims.{CutsOpen, SectorReads, ReadsBy, numbers, last, events, ReplayFor, RefusedFor, ReplayClaim}
+use Rattle.replaying.proofs.Noted.{SectorNoted, Noted, reopened-noted}
+use Rattle.replaying.proofs.Follows.{stateOf, Cleared, Sized, Followed, follow}
 
 -- ---- the records of a log
 
@@ -66,6 +64,12 @@ fit-records : (log : List ℕ) → Small log → AllFit ((logOf log) .records)
 fit-records log small = by-bool (leb (length log) maxLog) _
     (λ t. log-claim .every log small (leb-true _ _ t) .0)
     (λ t. rw (log-claim .longer log (leb-false _ _ t)) (unfold AllFit in tt))
+
+-- an answer for each record
+answers-length : (i : ℕ) (x : Point) (rs : List Record) → length (answersAll i x rs) ≡ length rs
+unfolding answersAll
+answers-length i x [] = refl
+answers-length i x (r ∷ rs) = ap suc (answers-length (suc i) (ran i x r) rs)
 
 -- ---- reading
 
@@ -142,11 +146,11 @@ module _ (a work : List ℕ) (small : Small a) (small-work : Small work) (e : (o
     first-figures : x .handle .figures ≡ f
     first-figures = ap (λ (y : State). y .handle .figures) first-state
 
-    abbrev ran : List Record
-    ran = (logOf log) .records
+    abbrev records : List Record
+    records = (logOf log) .records
 
-    followed : Followed (firstRow first) ((openOf alone a work) .work) f sized cleared 0 x ran (firstRow first) noLines
-    followed = follow (firstRow first) ((openOf alone a work) .work) f sized cleared ran 0 x (firstRow first) noLines first-figures
+    followed : Followed (firstRow first) ((openOf alone a work) .work) f sized cleared 0 x records (firstRow first) noLines
+    followed = follow (firstRow first) ((openOf alone a work) .work) f sized cleared records 0 x (firstRow first) noLines first-figures
         (record {
           rep = subst (λ (y : State). RepIn alone (firstRow first) y) (sym first-state) rep₀;
           work = refl;
@@ -161,7 +165,7 @@ module _ (a work : List ℕ) (small : Small a) (small-work : Small work) (e : (o
     abbrev end : State
     end = last a work log
 
-    last-is : stateOf (runAll 0 x ran) ≡ end
+    last-is : stateOf (runAll 0 x records) ≡ end
     last-is = followed .state ∙ ap (λ (y : State). runEvents alone y (events a work log)) first-state
 
     rep-last : RepIn alone (followed .row) end
@@ -194,7 +198,7 @@ module _ (a work : List ℕ) (small : Small a) (small-work : Small work) (e : (o
 
     -- the answers, and the ledger that they give
     abbrev given : List ℕ
-    given = answersAll 0 x ran
+    given = answersAll 0 x records
 
     numbers-are : numbers a work log ≡ given
     numbers-are = ap (λ (p : Replay). p .numbers) replay-is
@@ -204,15 +208,18 @@ module _ (a work : List ℕ) (small : Small a) (small-work : Small work) (e : (o
     numbers-in-row = numbers-are ∙ followed .in-row
 
     abbrev lines : List ℕ → Ledger
-    lines ns = allNoted (storesOf f) (f .lanes) noLines 0 ran ns
+    lines ns = allNoted (storesOf f) (f .lanes) noLines 0 records ns
 
     pub replay-for : ReplayFor a work log
     replay-for = record {
+      count = ap (λ (ns : List ℕ). length ns) numbers-are ∙ answers-length 0 x records;
+      whole = λ t. rw (replay-is, t) (refl, refl);
+      stops = λ t. rw (replay-is, t) (refl, refl);
       answers = numbers-are
           ∙ followed .numbers ∙ ap (λ (y : State). map (λ (r : Reply). r .number) (replyEvents alone y (events a work log))) first-state;
       arena = rw replay-is (ap (λ (y : State). y .arena) last-is);
       buffer = rw replay-is (followed .stands .work);
-      cuts = subst (CutsOpen ran) (sym numbers-are) (followed .cuts);
+      cuts = subst (CutsOpen records) (sym numbers-are) (followed .cuts);
       sectors = subst (λ (ns : List ℕ). ReadsBy first end ((lines ns) .sector)) (sym numbers-are)
           (reads-by f sized first end (firstRow first) (followed .row) (lines given) refl last-figures rep₀ rep-last (followed .stands .noted));
       opens = opens;
@@ -223,5 +230,27 @@ module _ (a work : List ℕ) (small : Small a) (small-work : Small work) (e : (o
           (reopened-noted f (sized .whole) (firstRow first) (followed .row) (lines given) (followed .stands .noted)));
     }
 
+-- ---- a refused opening
+
+module _ (a work log : List ℕ) (n : (openOf alone a work) .number ≢ 0) where
+  refused-is : replayOf a work log
+      ≡ record { first = (openOf alone a work) .number; numbers = []; stopped = false; at = 0; arena = (openOf alone a work) .arena; work = (openOf alone a work) .work }
+  unfolding replayOf
+  refused-is = rw (ne-eqb ((openOf alone a work) .number) 0 n)
+
+  refused-for : RefusedFor a work log
+  refused-for = record {
+    first = rw refused-is;
+    numbers = rw refused-is;
+    stopped = rw refused-is;
+    at = rw refused-is;
+    arena = rw refused-is (opening-claim alone told-alone .refused a work n .arena);
+    buffer = rw refused-is;
+  }
+
 pub replay-claim : ReplayClaim
-replay-claim a work log small small-work small-log e = replay-for a work small small-work e log small-log
+replay-claim = record {
+  opened = λ a work log small small-work small-log e.
+      (ap (λ (p : Replay). p .first) (replay-is a work small small-work e log small-log), replay-for a work small small-work e log small-log);
+  refused = refused-for;
+}

@@ -142,7 +142,7 @@ module _ (a work : List ℕ) (small : Small a) (small-work : Small work) (e : (o
       → let end = last a work exhibitLog in byteWord ((readOf (end .arena) (end .handle) 7 buffer) .buffer) (4 * k) ≡ 2 * k + 1
   words-are buffer v k u =
       let end = last a work exhibitLog in
-      let r = replay-claim a work exhibitLog small small-work (log-small exhibitRecords) e .sectors 7 buffer (omega (arith, sectors-are)) (v ∙ sym size-is) in
+      let r = replay-claim .opened a work exhibitLog small small-work (log-small exhibitRecords) e .1 .sectors 7 buffer (omega (arith, sectors-are)) (v ∙ sym size-is) in
       let c = subst (SectorReads (f .size) _ (readOf (end .arena) (end .handle) 7 buffer)) written-is r in
       let q : k + (1 + k) ≡ 2 * k + 1 = omega arith in
       c .words k (rw size-is (omega arith)) ∙ ap (λ (n : ℕ). k + n) (rising-at 1 132 k (omega arith)) ∙ q

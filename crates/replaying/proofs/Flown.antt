@@ -1,7 +1,6 @@
 -- A replay along one write, in the row: while lane 0 has it in flight and the other lanes are idle, every step is accepted, and a start
 -- to the same sector on another lane is refused.
 use mathlib.Core.Path.{_≡_, refl, ap₂, subst}
-use mathlib.Core.Bool.{false, cond}
 use mathlib.Core.List.{List, [], _∷_, _++_, map}
 use Prim.Native.Nat.{ℕ, zero, suc, _+_, _≤_, _<_}
 use native.Mathlib.Omega.{arith}
@@ -12,22 +11,8 @@ use Rattle.format.specs.declared.numbers.LaneNo.{LaneNo}
 use Rattle.format.specs.Tests.{some}
 use Rattle.layout.specs.declared.Figures.{Figures}
 use Rattle.machine.specs.Rules.{answer}
-use Rattle.machine.specs.calls.History.{says, start, step, Reply, Event, called, opened}
-use Rattle.machine.specs.models.Row.{
-  Flight,
-  idle,
-  flying,
-  Row,
-  storesOf,
-  wordByWord,
-  rowNumber,
-  rowReply,
-  rowAfter,
-  rowOpenNumber,
-  rowReplyEvent,
-  rowAfterEvent,
-  rowReplies,
-}
+use Rattle.machine.specs.calls.History.{says, start, step, Reply, Event, called}
+use Rattle.machine.specs.models.Row.{idle, flying, Row, wordByWord, rowNumber, rowReply, rowAfter, rowOpenNumber, rowReplyEvent, rowAfterEvent, rowReplies}
 use Rattle.runlog.specs.declared.record.Record.{Record}
 use Rattle.runlog.specs.declared.record.Record.the-variants.{Start, Step, Cut}
 use Rattle.replaying.specs.Replay.{stepBytes}

@@ -1,13 +1,12 @@
 -- A replay is a history of calls and openings, and its row goes with its ledger: record by record, the call is the event's, an opening is
 -- never refused and leaves the work buffer as it was, and what the record answered is noted.
 use mathlib.Core.Path.{_≡_, refl, sym, ap, ap₂, _∙_, subst}
-use mathlib.Core.Bool.{true, false, cond}
 use mathlib.Core.List.{List, [], _∷_, _++_, map}
-use Prim.Native.Nat.{ℕ, zero, suc, _+_, _*_, _/_, _≤_, _<_}
+use Prim.Native.Nat.{ℕ, zero, suc, _+_, _*_, _/_, _≤_}
 use native.Mathlib.Omega.{arith}
 use lib.Dec.{eqb}
 use lib.ListN.{length, drop, replicate}
-use borrow.Author.Tests.{eqb-true, le-ltb, not-false}
+use borrow.Author.Tests.{le-ltb}
 use Rattle.words.specs.Bytes.{Small}
 use Rattle.words.specs.Word.{word}
 use Rattle.format.proofs.Tests.{by-bool}

@@ -1,5 +1,5 @@
 -- A replay from what the first opening gave and what its records gave, outcome by outcome.
-use mathlib.Core.Path.{_≡_, refl, sym, ap, _∙_}
+use mathlib.Core.Path.{_≡_, refl, ap}
 use mathlib.Core.Bool.{true, false}
 use mathlib.Core.List.{List, [], _∷_}
 use Prim.Native.Nat.{ℕ, _≤_, _<_}
@@ -13,7 +13,7 @@ use Rattle.arena.specs.Calls.{PackedOpening, packedOpening}
 use Rattle.runlog.specs.Log.{maxLog, logFrom, logOf}
 use Rattle.replaying.specs.declared.Ran.{Ran}
 use Rattle.replaying.specs.Replay.{Point, openedPoint, runAll, answersAll, replayOf}
-use Rattle.replaying.specs.Gave.{pointAt, putAnswers, Given, into, runInto, gaveAll}
+use Rattle.replaying.specs.Gave.{pointAt, putAnswers, into, runInto, gaveAll}
 use Rattle.replaying.proofs.Packed.{open-point}
 
 -- where no record ran, the buffer is as it came

@@ -23,7 +23,7 @@ use Rattle.machine.proofs.calls.Accepted.{start-found, step-found}
 use Rattle.machine.proofs.calls.Running.{handle-fit}
 use Rattle.arena.specs.Calls.{PackedOpening, packedOpening}
 use Rattle.writing.specs.Gave.{PackedOutcome, packedOutcome}
-use Rattle.replaying.specs.Replay.{Point, outcomePoint, openedPoint}
+use Rattle.replaying.specs.Replay.{outcomePoint, openedPoint}
 use Rattle.replaying.specs.Gave.{pointAt}
 
 module _ (a : List ℕ) (p : packed.Handle) (room : length (p .lanes) ≡ maxLanes) where

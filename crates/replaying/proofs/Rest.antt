@@ -1,11 +1,11 @@
 -- What is left of a replay before the record at an offset: the records from there on, with those run before counted and their answers
 -- in place. Each turn of the loop leaves it as it was, and at the end nothing is left.
-use mathlib.Core.Path.{_≡_, refl, sym, ap, _∙_}
+use mathlib.Core.Path.{_≡_, refl, ap, _∙_}
 use mathlib.Core.Bool.{true, false, cond}
-use mathlib.Core.List.{List, [], _∷_, _++_}
-use Prim.Native.Nat.{ℕ, zero, suc, _+_, _≤_, _<_}
+use mathlib.Core.List.{List, [], _∷_}
+use Prim.Native.Nat.{ℕ, suc, _+_, _≤_, _<_}
 use native.Mathlib.Omega.{arith}
-use lib.ListN.{length, set, take, drop}
+use lib.ListN.{length, set}
 use Rattle.runlog.specs.declared.record.Taken.{Taken}
 use Rattle.runlog.specs.Record.{lengthOf, refuses, recordAt, takenAt}
 use Rattle.runlog.specs.Log.{Log, logFrom}

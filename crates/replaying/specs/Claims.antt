@@ -1,12 +1,13 @@
 -- What a replay promises: it is a history of calls and openings, no opening in it is refused, and a sector last written in it has in
 -- word k the number k plus the index of the record whose step stored that word.
 use mathlib.Core.Path.{_≡_}
+use mathlib.Core.Logic.{_≢_}
+use mathlib.Core.Bool.{true, false}
 use mathlib.Core.List.{List, [], _∷_, map}
-use Prim.Native.Nat.{ℕ, zero, suc, _+_, _*_, _/_, _≤_, _<_}
+use Prim.Native.Nat.{ℕ, suc, _+_, _*_, _/_, _≤_, _<_}
 use lib.ListN.{length, getD}
 use Rattle.words.specs.Bytes.{Small, byteWord}
 use Rattle.layout.specs.Told.{alone}
-use Rattle.layout.specs.declared.Figures.{Figures}
 use Rattle.machine.specs.calls.Opening.{figuresIn, openOf}
 use Rattle.machine.specs.calls.Reading.{Read, readOf}
 use Rattle.machine.specs.calls.History.{start, step, read, State, Reply, Event, called, opened, replyEvents, runEvents, openedFrom}
@@ -96,6 +97,10 @@ module _ (a work log : List ℕ) where
   ledger = allNoted stores (first .handle .figures .lanes) noLines 0 ranRecords numbers
 
   pub record ReplayFor : Type 0 where
+    -- an answer for each record; 20 at the offset where no record stands, or none
+    pub count : length numbers ≡ length ranRecords
+    pub whole : (logOf log) .stopped ≡ false → ((replayOf a work log) .stopped ≡ false) × ((replayOf a work log) .at ≡ 0)
+    pub stops : (logOf log) .stopped ≡ true → ((replayOf a work log) .stopped ≡ true) × ((replayOf a work log) .at ≡ (logOf log) .at)
     -- the replay answers and leaves what its records do as a history of calls and openings
     pub answers : numbers ≡ map (λ (r : Reply). r .number) (replyEvents alone first events)
     pub arena : (replayOf a work log) .arena ≡ last .arena
@@ -108,6 +113,17 @@ module _ (a work log : List ℕ) where
     pub reopened : (room : List ℕ) → Small room → (figuresIn a) .blocks ≤ length room
         → ReadsBy first (openedFrom alone (last .arena) room) ((cutNoted stores (first .handle .figures .lanes) ledger) .sector)
 
--- any lent arena that opens, any lent work buffer and any lent log
-abbrev pub ReplayClaim : Type 0
-ReplayClaim = (a work log : List ℕ) → Small a → Small work → Small log → (openOf alone a work) .number ≡ 0 → ReplayFor a work log
+-- where the first opening is refused no record runs, and the arena is as it was
+pub record RefusedFor (a work log : List ℕ) : Type 0 where
+  pub first : (replayOf a work log) .first ≡ (openOf alone a work) .number
+  pub numbers : (replayOf a work log) .numbers ≡ []
+  pub stopped : (replayOf a work log) .stopped ≡ false
+  pub at : (replayOf a work log) .at ≡ 0
+  pub arena : (replayOf a work log) .arena ≡ a
+  pub buffer : (replayOf a work log) .work ≡ (openOf alone a work) .work
+
+-- any lent arena, any lent work buffer and any lent log
+pub record ReplayClaim : Type 0 where
+  pub opened : (a work log : List ℕ) → Small a → Small work → Small log → (openOf alone a work) .number ≡ 0
+      → ((replayOf a work log) .first ≡ 0) × ReplayFor a work log
+  pub refused : (a work log : List ℕ) → (openOf alone a work) .number ≢ 0 → RefusedFor a work log

@@ -11,7 +11,7 @@ ghost use lib.ListN.{length, set};
 ghost use Rattle.machine.specs.state.Answer.{numberOf};
 ghost use Rattle.runlog.specs.Log.{maxLog, logFrom};
 ghost use Rattle.replaying.specs.Replay.{replayOf};
-ghost use Rattle.replaying.specs.Gave.{pointAt, putAnswers, gaveAll, runInto, gave, into};
+ghost use Rattle.replaying.specs.Gave.{pointAt, gaveAll, runInto, gave, into};
 
 pub mod claims;
 mod run;

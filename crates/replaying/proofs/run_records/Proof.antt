@@ -1,6 +1,6 @@
 -- `run_records` meets its contract. The loop's invariant: what is left of the replay is what it was at first. The measure is the bytes
 -- that are left of the log.
-use mathlib.Core.Path.{_≡_, refl, sym, ap, _∙_}
+use mathlib.Core.Path.{_≡_, refl, sym, _∙_}
 use Prim.Native.Nat.{_-_, _≤_}
 use native.Mathlib.Omega.{arith}
 use lib.ListN.{length}
