@@ -54,16 +54,19 @@ whole-word i k u v =
     (rising-small i (maxSize / 4) (omega arith)) (omega (arith, l))
     ∙ rising-at i (maxSize / 4) k v
 
+whole-room : (i size : ℕ) → size ≤ maxSize → size ≤ length (whole i)
+whole-room i size u = omega (arith, whole-length i)
+
 module _ (size i : ℕ) where
   pub lent-small : Small (stepBytes size i)
-  lent-small = below-take 256 size (whole i) (omega arith) (whole-bytes i .small)
+  lent-small = below-take 256 size _ (omega arith) (whole-bytes _ .small)
 
   module _ (u : size ≤ maxSize) where
     pub lent-length : length (stepBytes size i) ≡ size
-    lent-length = length-take-le size (whole i) (omega (arith, whole-length i))
+    lent-length = length-take-le size _ (whole-room _ size u)
 
     pub lent-word : i ≤ 8192 → (k : ℕ) → 4 * k + 4 ≤ size → word (stepBytes size i) k ≡ i + k
-    lent-word v k w = word-take (whole i) size k w ∙ whole-word i k v (omega arith)
+    lent-word v k w = word-take _ size k w ∙ whole-word i k v (omega arith)
 
 pub steps-claim : StepsClaim
 unfolding word

@@ -81,12 +81,6 @@ module _ (log : List ℕ) (x : Point) (answers : List ℕ) where
     unfolding rest putFrom countFrom runAll answersAll
     rest-end u = rw (log-end log at u)
 
-    -- where a record is refused
-    pub rest-stop : at < length log → refuses (recordAt log at) ≡ true
-        → rest log at i x answers ≡ record { first = 0; records = i; stopped = true; at = at; arena = x .arena; work = x .work; answers = answers }
-    unfolding rest putFrom countFrom runAll answersAll
-    rest-stop u e = rw (log-stop log at u e)
-
     -- one record more
     pub rest-more : at < length log → refuses (recordAt log at) ≡ false
         → let r = recordAt log at in
@@ -107,9 +101,11 @@ module _ (log : List ℕ) (at : ℕ) (t : Taken) (e : t ≡ takenAt log at) wher
   taken-in f = let r = record-in log at (rw found-is at f) in (omega (arith, after-is, r .1), omega (arith, after-is, r .0))
 
   module _ (u : at < length log) (i : ℕ) (x : Point) (answers : List ℕ) where
+    -- where a record is refused
     pub stops : refuses (t .found) ≡ true
         → rest log at i x answers ≡ record { first = 0; records = i; stopped = true; at = at; arena = x .arena; work = x .work; answers = answers }
-    stops f = rest-stop log x answers at i u (rw found-is at f)
+    unfolding rest putFrom countFrom runAll answersAll
+    stops f = rw (log-stop log at u (rw found-is at f))
 
     pub turns : refuses (t .found) ≡ false → (y : Point) → y ≡ ran i x (t .found) → (n : ℕ) → n ≡ answered i x (t .found)
         → (after : List ℕ) → after ≡ set answers i n → rest log at i x answers ≡ rest log (t .after) (i + 1) y after
