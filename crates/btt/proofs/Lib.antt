@@ -5,3 +5,4 @@ pub mod Same
 pub mod Shown
 pub mod Listing
 pub mod Demands
+pub mod Replays

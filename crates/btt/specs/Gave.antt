@@ -6,6 +6,7 @@ use Rattle.machine.specs.calls.Making.{MakeOutcome}
 use Rattle.machine.specs.calls.Opening.{Opening}
 use Rattle.machine.specs.calls.Reading.{Read}
 use Rattle.btt.specs.Calls.{HostOpening, HostOutcome, HostLane, HostNext}
+use Rattle.btt.specs.Replay.{HostReplay}
 
 abbrev pub made : ℕ → List ℕ → MakeOutcome
 made n arena = record { number = n; arena = arena }
@@ -28,3 +29,7 @@ lane n out = record { number = n; out = out }
 
 abbrev pub next : ℕ → ℕ → HostNext
 next n offset = record { number = n; offset = offset }
+
+abbrev pub replayed : ℕ → ℕ → ℕ → List ℕ → List ℕ → List ℕ → HostReplay
+replayed n records stopped arena work answers =
+    record { number = n; records = records; stopped = stopped; arena = arena; work = work; answers = answers }

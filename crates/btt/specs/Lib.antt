@@ -1,4 +1,5 @@
 pub mod Calls
+pub mod Replay
 pub mod Gave
 pub mod Host
 pub mod HostList

@@ -18,6 +18,8 @@ use inspect::info_span;
 use inspect::judge_lane;
 use inspect::judge_next;
 use inspect::next_offset;
+use machine::answer::Answer;
+use replaying::replay;
 use writing::Stepped;
 ghost use mathlib.Core.Path.{_≡_};
 ghost use Prim.Native.Nat.{_≤_, _<_};
@@ -30,6 +32,7 @@ ghost use Rattle.machine.specs.state.Answer.{numberOf};
 ghost use Rattle.machine.specs.state.Packed.{unpacked};
 ghost use Rattle.btt.specs.Calls.{span, putBack, bttInfoBlockOf, bttOpenOf, bttReadOf, bttStartOf, bttStepOf, bttWriteOf};
 ghost use Rattle.btt.specs.Calls.{bttLaneOf, bttNextStoreOf};
+ghost use Rattle.btt.specs.Replay.{bttReplayOf};
 ghost use Rattle.btt.specs.Gave as gave;
 
 pub mod claims;
@@ -214,4 +217,30 @@ pub extern "C" fn btt_next_store(
     }
     *offset = next_offset(arena, h, LaneNo(lane));
     answer.number()
+}
+
+// Replays a run log on an arena: each record's answer in a byte, how many records ran, and where the log is refused, 0 if it is not.
+#[no_mangle]
+pub extern "C" fn btt_replay(
+    arena: &mut [u8],
+    work: &mut [u8],
+    log: &[u8],
+    answers: &mut [u8],
+    records: &mut u64,
+    stopped: &mut u64,
+) -> u32
+    ensures { λ r. ⌜ gave.replayed r (now (records .exit)) (now (stopped .exit)) (now (arena .exit)) (now (work .exit)) (now (answers .exit))
+        ≡ bttReplayOf (now (arena .entry)) (now (work .entry)) (now (log .entry)) (now (answers .entry)) ⌝ }
+{
+    let replayed = replay(arena, work, log, answers);
+    *records = replayed.records as u64;
+    *stopped = replayed.at as u64;
+    let first = replayed.first;
+    if !first.is_done() {
+        return first.number();
+    }
+    if replayed.stopped {
+        return Answer::BadRecord.number();
+    }
+    first.number()
 }
