@@ -1,5 +1,5 @@
 -- What the library's calls are to the machine's: bytes hold a handle, and each call through them is the machine's call on that handle.
--- `HostList` says it of lists of calls.
+-- `HostList` says it of lists of calls, and `HostReplay` of replays.
 use mathlib.Core.Path.{_≡_}
 use mathlib.Core.Logic.{_≢_, _⊎_}
 use mathlib.Core.List.{List, [], _∷_}

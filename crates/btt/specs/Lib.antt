@@ -4,3 +4,4 @@ pub mod Gave
 pub mod Host
 pub mod HostList
 pub mod HostDemands
+pub mod HostReplay

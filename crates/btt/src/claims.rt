@@ -2,6 +2,7 @@
 ghost use Rattle.btt.specs.Host.{HostClaim};
 ghost use Rattle.btt.specs.HostList.{HostListClaim};
 ghost use Rattle.btt.specs.HostDemands.{HostDemands};
+ghost use Rattle.btt.specs.HostReplay.{HostReplayClaim};
 
 // Each call through bytes that hold a handle is the machine's call on that handle; a refusal changes nothing; what a host is shown is so.
 pub fn host()
@@ -16,4 +17,9 @@ pub fn host_list()
 // A host's list behaves as the plain row of sectors, and cut anywhere it leaves what the book says.
 pub fn host_demands()
     ensures host_demands { λ _. ⌜ HostDemands ⌝ }
+{}
+
+// A replay of a log answers as its records do as calls and openings, and leaves their arena; one that cannot open runs none.
+pub fn host_replay()
+    ensures host_replay { λ _. ⌜ HostReplayClaim ⌝ }
 {}
