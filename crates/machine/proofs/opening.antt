@@ -11,6 +11,7 @@ pub mod Mends
 pub mod Opening
 pub mod Opens
 pub mod Reflect
+pub mod Room
 pub mod Settled
 pub mod Spare
 pub mod MendedMap

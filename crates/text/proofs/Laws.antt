@@ -6,7 +6,7 @@ use native.Mathlib.Nat.{add-zero, zero-add, le-of-lt}
 use native.Mathlib.Numerals.{add-one}
 use native.Mathlib.Omega.{arith}
 use lib.ListN.{length, getD, set, take, drop, length-append}
-use lib.Seq.{sets, sets-eq, length-sets, take-suc, take-length, length-take-le}
+use lib.Seq.{sets, sets-eq, length-sets, take-at, take-suc, take-length, length-take-le}
 use borrow.Author.Tests.{lt-ltb, le-ltb}
 use Rattle.machine.specs.state.Handle.{Handle, laneAt}
 use Rattle.machine.specs.declared.lane.Lane.{Lane}
@@ -31,7 +31,7 @@ pub put-length : {l m t : List ℕ} {at next : ℕ} → Put l m at next t → le
 put-length {l} {m} {t} {at} p = ap length (p .bytes) ∙ length-sets l at t
 
 -- no text, and one byte
-put-none : (l : List ℕ) (at : ℕ) → Put l l at at []
+pub put-none : (l : List ℕ) (at : ℕ) → Put l l at at []
 put-none l at = record { bytes = refl; place = omega arith }
 
 put-byte : (l : List ℕ) (at b : ℕ) → Put l (set l at b) at (at + 1) (b ∷ [])
@@ -120,3 +120,11 @@ pub whole : {l m text : List ℕ} {size : ℕ} → Put l m 0 size text → size 
 whole {l} {m} {text} {size} p h =
     let e : size ≡ length text = p .place ∙ zero-add _ in
     (e, p .bytes ∙ sets-eq text l 0 (omega arith) ∙ rw zero-add)
+
+-- and counted by its length
+pub counted : (text before after : List ℕ) (r : ℕ) → r ≡ length text → after ≡ text ++ drop (length text) before
+    → (r ≤ length after) × (r ≡ length (take r after))
+counted text before after r e f =
+    let l : length after ≡ length text + length (drop (length text) before) =
+    ap length f ∙ length-append text (drop (length text) before) in
+    (omega arith, e ∙ sym (ap length (ap (take r) f ∙ take-at text (drop (length text) before) r (sym e))))

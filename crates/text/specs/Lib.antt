@@ -1,2 +1,4 @@
+pub mod Claims
 pub mod Put
+pub mod Replay
 pub mod Text

@@ -10,6 +10,9 @@ ghost use Rattle.machine.specs.state.Packed.{unpacked};
 ghost use Rattle.text.specs.Text.{digits, decimal, newline, refusedText, headText, laneText, lanesText, openedText};
 ghost use Rattle.text.specs.Put.{Put};
 
+pub mod claims;
+pub mod replay;
+
 // A piece of text.
 fn put_text(out: &mut [u8], at: usize, text: &[u8]) -> usize
     requires { ⌜ at + length (now text) ≤ length (now out) ⌝ }
