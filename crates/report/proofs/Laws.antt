@@ -2,13 +2,10 @@
 use mathlib.Core.Path.{_≡_, refl, sym, ap, _∙_}
 use mathlib.Core.Bool.{true, false}
 use mathlib.Core.List.{List, _++_}
-use Prim.Native.Nat.{ℕ, _+_, _≤_, _<_}
-use native.Mathlib.Omega.{arith}
+use Prim.Native.Nat.{ℕ, _≤_, _<_}
 use lib.Dec.{eqb}
-use lib.ListN.{length, take, drop, length-append}
-use lib.Seq.{take-at}
+use lib.ListN.{length, drop}
 use borrow.Author.Tests.{lt-ltb, le-ltb, eqb-true}
-use Rattle.io.specs.Counts.{Counts}
 use Rattle.layout.specs.Figures.{maxLanes}
 use Rattle.layout.specs.Told.{alone}
 use Rattle.machine.specs.state.Handle.{Handle}
@@ -21,13 +18,6 @@ use Rattle.machine.proofs.opening.Opens.{open-zero, opened-figures}
 use Rattle.arena.specs.Calls.{PackedOpening, packedOpening}
 use Rattle.text.specs.Text.{refusedText, openedText}
 use Rattle.report.specs.Report.{textOf, workBuffer, reportOf, Reported}
-
--- a text at the start of a buffer is counted by its length
-pub counted : (text before after : List ℕ) (r : ℕ) → r ≡ length text → after ≡ text ++ drop (length text) before → Counts r after
-counted text before after r e f =
-    let l : length after ≡ length text + length (drop (length text) before) =
-    ap length f ∙ length-append text (drop (length text) before) in
-    (omega arith, e ∙ sym (ap length (ap (take r) f ∙ take-at text (drop (length text) before) r (sym e))))
 
 pub too-long : (a before after : List ℕ) (r : ℕ) → 65536 < length a → r ≡ length (refusedText 1)
     → after ≡ refusedText 1 ++ drop (length (refusedText 1)) before → Reported (reportOf a) r a before after

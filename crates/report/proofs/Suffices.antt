@@ -1,53 +1,15 @@
--- An arena of 65,536 bytes has at most 128 blocks: one of 512 bytes or more for each, between two info blocks.
-use mathlib.Core.Path.{_≡_, refl}
-use mathlib.Core.Logic.{⊎-elim}
-use mathlib.Core.Bool.{Bool, true, false, cond}
-use mathlib.Core.List.{List}
-use Prim.Native.Nat.{ℕ, _*_, _≤_}
+-- 128 bytes are a byte for every 512 bytes of the longest input, which suffices.
+use mathlib.Core.Path.{refl}
+use Prim.Native.Nat.{_*_, _≤_}
 use native.Mathlib.Omega.{arith}
-use native.Mathlib.Nat.{mul-le-mul-left}
-use lib.Dec.{ltb}
 use lib.ListN.{length}
-use borrow.Author.Tests.{le-ltb, not-false}
-use Rattle.format.proofs.Tests.{true-false}
-use Rattle.layout.specs.Figures.{Allowed}
-use Rattle.layout.specs.Place.{layoutOf}
-use Rattle.layout.specs.Told.{alone}
-use Rattle.layout.specs.declared.Figures.{Figures}
-use Rattle.machine.specs.Rules.{answer}
-use Rattle.machine.specs.calls.Opening.{figuresIn, layoutIn, lanesLost, wordBad, unsettled, openNumber, openOf}
-use Rattle.machine.proofs.opening.Described.{Described, told-alone, described-figures}
+use borrow.Author.Tests.{leb-true}
+use Rattle.machine.proofs.opening.Room.{room-suffices}
+use Rattle.report.specs.Report.{workBuffer}
 use Rattle.report.specs.Claims.{WorkSuffices}
 
-few-blocks : (f : Figures) (n : ℕ) → Allowed f n → n ≤ 65536 → f .blocks ≤ 128
-few-blocks f n ok h =
-    let i : 512 ≤ f .internal = ⊎-elim (λ e. omega (arith, ok .internal)) (λ e. omega (arith, ok .internal)) (ok .size) in
-    let m : f .blocks * 512 ≤ f .blocks * f .internal = mul-le-mul-left (f .blocks) i in
-    omega (arith, ok .data-end, ok .map-end, ok .flog-end, ok .copy-start)
-
--- the fifth rule does not apply where the four before it do not
-not-five : (p q r s t u v w : Bool) → (p ≡ false → q ≡ false → r ≡ false → s ≡ false → t ≡ false)
-    → _≡_ {A = ℕ} (cond p 1 (cond q 2 (cond r 3 (cond s 4 (cond t 5 (cond u 6 (cond v 7 (cond w 8 0)))))))) 5 → ⊥
-not-five true q r s t u v w h e = omega arith
-not-five false true r s t u v w h e = omega arith
-not-five false false true s t u v w h e = omega arith
-not-five false false false true t u v w h e = omega arith
-not-five false false false false true u v w h e = true-false (h refl refl refl refl)
-not-five false false false false false true v w h e = omega arith
-not-five false false false false false false true w h e = omega arith
-not-five false false false false false false false true h e = omega arith
-not-five false false false false false false false false h e = omega arith
-
-enough : (a : List ℕ) → length a ≤ 65536 → openNumber alone a 128 ≡ 5 → ⊥
-unfolding openNumber answer layoutOf
-enough a h =
-    let g = layoutIn alone a in
-    not-five _ _ _ _ _ (lanesLost g a) (wordBad g a) (unsettled g a)
-    (λ p q r s. room (record { size = not-false _ p; block = q; allowed = not-false _ r; flags = not-false _ s }))
-  where
-    room : Described alone a → ltb 128 ((layoutIn alone a) .I) ≡ false
-    room d = le-ltb 128 ((layoutIn alone a) .I) (few-blocks (figuresIn a) (length a) (described-figures alone told-alone a d) h)
+enough : 65536 ≤ 512 * length workBuffer
+enough = leb-true 65536 (512 * length workBuffer) refl
 
 pub work-suffices : WorkSuffices
-unfolding openOf
-work-suffices a h e = enough a h e
+work-suffices a h = room-suffices a workBuffer (omega (arith, enough))

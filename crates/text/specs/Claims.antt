@@ -1,8 +1,7 @@
 -- The text of a replay said a second time: whole texts, character by character.
 use mathlib.Core.Path.{_≡_}
 use mathlib.Core.Bool.{true, false}
-use mathlib.Core.List.{List, [], _∷_, _++_}
-use Prim.Native.Nat.{ℕ}
+use mathlib.Core.List.{[], _∷_, _++_}
 use Rattle.text.specs.Replay.{replayText}
 
 pub record TextClaim : Type 0 where

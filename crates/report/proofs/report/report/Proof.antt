@@ -1,5 +1,6 @@
 -- `report::report::report` meets its contract: each way out is one law of the report.
-use Rattle.report.proofs.Laws.{counted, too-long, refused-report, opened-report, few-lanes}
+use Rattle.text.proofs.Laws.{counted}
+use Rattle.report.proofs.Laws.{too-long, refused-report, opened-report, few-lanes}
 use Rattle.text.specs.Text.{refusedText, openedText}
 use Rattle.machine.specs.state.Answer.{numberOf}
 use Rattle.machine.specs.state.Packed.{unpacked}

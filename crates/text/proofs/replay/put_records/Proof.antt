@@ -1,6 +1,5 @@
 -- `text::replay::put_records` meets its contract. The loop's invariant: the lines of the first i records are stored, each at most 30 bytes
 -- long. The measure is the number of records left.
-use mathlib.Core.Path.{_≡_}
 use Prim.Native.Nat.{_-_, _*_, _≤_}
 use native.Mathlib.Omega.{arith}
 use native.Mathlib.Nat.{le-antisymm}
