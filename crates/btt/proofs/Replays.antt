@@ -10,15 +10,13 @@ use Rattle.words.specs.Bytes.{Small}
 use Rattle.layout.specs.Told.{alone}
 use Rattle.machine.specs.state.Answer.{numberOf}
 use Rattle.machine.specs.calls.Opening.{openOf}
-use Rattle.machine.proofs.opening.Described.{told-alone}
-use Rattle.machine.proofs.opening.Opening.{opening-claim}
-use Rattle.runlog.specs.declared.record.Record.{Record}
-use Rattle.runlog.specs.Log.{Log, logOf}
+use Rattle.runlog.specs.Log.{Log}
 use Rattle.runlog.proofs.Logs.{log-claim}
 use Rattle.replaying.specs.declared.Replayed.{Replayed}
-use Rattle.replaying.specs.Replay.{Point, ran, openedPoint, answersAll, replayFrom, replayOf}
+use Rattle.replaying.specs.Replay.{ran, replayOf}
 use Rattle.replaying.specs.Gave.{putAnswers, Given, into, gave}
 use Rattle.replaying.proofs.Claimed.{replay-claim}
+use Rattle.replaying.proofs.Outcomes.{put-nothing}
 use Rattle.btt.specs.Replay.{HostReplay, replayNumber, bttReplayOf}
 use Rattle.btt.specs.Gave as host
 use Rattle.btt.specs.HostReplay as claim
@@ -37,12 +35,8 @@ replay-call a work log answers r arena left put e n k = rw k (ap forHost e)
 
 -- ---- the answers in the lent buffer
 
-put-none : (bs : List ℕ) → putAnswers [] bs ≡ bs
-put-none [] = refl
-put-none (b ∷ bs) = refl
-
 put-size : (ns bs : List ℕ) → length (putAnswers ns bs) ≡ length bs
-put-size [] bs = ap length (put-none bs)
+put-size [] bs = ap length (put-nothing bs)
 put-size (n ∷ ns) [] = refl
 put-size (n ∷ ns) (b ∷ bs) = ap suc (put-size ns bs)
 
@@ -53,57 +47,45 @@ put-in (n ∷ ns) (b ∷ bs) zero u v = refl
 put-in (n ∷ ns) (b ∷ bs) (suc i) u v = put-in ns bs i (omega arith) (omega arith)
 
 put-past : (ns bs : List ℕ) (i : ℕ) → length ns ≤ i → getD (putAnswers ns bs) i 0 ≡ getD bs i 0
-put-past [] bs i u = ap (λ (cs : List ℕ). getD cs i 0) (put-none bs)
+put-past [] bs i u = ap (λ (cs : List ℕ). getD cs i 0) (put-nothing bs)
 put-past (n ∷ ns) [] i u = refl
 put-past (n ∷ ns) (b ∷ bs) zero u = absurd (omega arith)
 put-past (n ∷ ns) (b ∷ bs) (suc i) u = put-past ns bs i (omega arith)
-
--- each record has an answer
-count : (i : ℕ) (x : Point) (rs : List Record) → length (answersAll i x rs) ≡ length rs
-unfolding answersAll
-count i x [] = refl
-count i x (r ∷ rs) = ap suc (count (suc i) (ran i x r) rs)
 
 -- ---- the claim
 
 pub nothing-ran : (a work log answers : List ℕ) → (openOf alone a work) .number ≢ 0
     → claim.NothingRan a work answers (bttReplayOf a work log answers)
-unfolding bttReplayOf replayOf
+unfolding bttReplayOf
 nothing-ran a work log answers n =
-    let t = ne-eqb ((openOf alone a work) .number) 0 n in
+    let q = replay-claim .refused a work log n in
     record {
-      number = rw t (rw t);
-      records = rw t;
-      stopped = rw t;
-      arena = rw t (opening-claim alone told-alone .refused a work n .arena);
-      work = rw t;
-      answers = rw t (put-none answers);
+      number = rw (q .first, ne-eqb ((openOf alone a work) .number) 0 n);
+      records = ap (λ (ns : List ℕ). length ns) (q .numbers);
+      stopped = q .at;
+      arena = q .arena;
+      work = q .buffer;
+      answers = rw (q .numbers) (put-nothing answers);
     }
 
-module _ (a work log answers : List ℕ) (small : Small a) (small-work : Small work) (small-log : Small log)
-    (e : (openOf alone a work) .number ≡ 0) where
-  replay-is : replayOf a work log ≡ replayFrom (logOf log) (openedPoint (openOf alone a work))
-  unfolding replayOf
-  replay-is = rw e
-
-  counted : length ((replayOf a work log) .numbers) ≡ length ((logOf log) .records)
-  counted = rw replay-is (count 0 (openedPoint (openOf alone a work)) ((logOf log) .records))
-
-  pub records-ran : claim.RecordsRan a work log answers (bttReplayOf a work log answers)
-  unfolding bttReplayOf
-  records-ran =
-      let p = replay-claim a work log small small-work small-log e in
-      let ns = (replayOf a work log) .numbers in
-      record {
-        whole = λ s. rw (replay-is, s) (refl, refl);
-        refused = λ s. rw (replay-is, s) (refl, refl);
-        longer = λ u.
-            let l = log-claim .longer log u in
-            (rw (replay-is, l), rw (replay-is, l), counted ∙ ap (λ (y : Log). length (y .records)) l);
-        records = counted;
-        size = put-size ns answers;
-        answered = λ i u v. put-in ns answers i u v ∙ ap (λ (ms : List ℕ). getD ms i 0) (p .answers);
-        unused = λ i u. put-past ns answers i u;
-        arena = p .arena;
-        work = p .buffer;
-      }
+pub records-ran : (a work log answers : List ℕ) → Small a → Small work → Small log → (openOf alone a work) .number ≡ 0
+    → claim.RecordsRan a work log answers (bttReplayOf a work log answers)
+unfolding bttReplayOf
+records-ran a work log answers small small-work small-log e =
+    let q = replay-claim .opened a work log small small-work small-log e in
+    let p = q .1 in
+    let ns = (replayOf a work log) .numbers in
+    record {
+      whole = λ s. (rw (q .0, p .whole s .0), p .whole s .1);
+      refused = λ s. (rw (q .0, p .stops s .0), p .stops s .1);
+      longer = λ u.
+          let l = log-claim .longer log u in
+          let s = p .stops (ap (λ (y : Log). y .stopped) l) in
+          (rw (q .0, s .0), s .1 ∙ ap (λ (y : Log). y .at) l, p .count ∙ ap (λ (y : Log). length (y .records)) l);
+      records = p .count;
+      size = put-size ns answers;
+      answered = λ i u v. put-in ns answers i u v ∙ ap (λ (ms : List ℕ). getD ms i 0) (p .answers);
+      unused = λ i u. put-past ns answers i u;
+      arena = p .arena;
+      work = p .buffer;
+    }

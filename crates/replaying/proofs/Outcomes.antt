@@ -17,7 +17,7 @@ use Rattle.replaying.specs.Gave.{pointAt, putAnswers, into, runInto, gav
 use Rattle.replaying.proofs.Packed.{open-point}
 
 -- where no record ran, the buffer is as it came
-put-nothing : (answers : List ℕ) → putAnswers [] answers ≡ answers
+pub put-nothing : (answers : List ℕ) → putAnswers [] answers ≡ answers
 put-nothing [] = refl
 put-nothing (b ∷ bs) = refl
 
