@@ -10,6 +10,7 @@ import subprocess
 
 import calls
 import model
+import runlog
 
 TOP = pathlib.Path(__file__).resolve().parent.parent
 ARCHIVE = TOP / "target" / "staticlib" / "libbtt.a"
@@ -26,11 +27,15 @@ LIBRARY_CALLS = {
     "btt_start": (BYTES, HANDLE, WORD, WORD),
     "btt_step": (BYTES, HANDLE, WORD, BYTES),
     "btt_write": (BYTES, HANDLE, WORD, WORD, BYTES),
+    "btt_replay": (BYTES, BYTES, BYTES, BYTES, COUNT, COUNT),
 }
 
 # Length and the four starts; sector size, sectors, internal size, blocks, lanes and a reserved word; 16 records of seven words.
 HANDLE_FORM = struct.Struct("<5Q6I112I")
 HANDLE_BYTES = HANDLE_FORM.size
+
+# Bytes after a lent buffer, which no call may change.
+GUARD = b"\xA7" * 64
 
 
 def handle_bytes(handle):
@@ -137,12 +142,20 @@ class Library:
     def write(self, arena, handle, lane, sector, buffer):
         return self.call("btt_write", arena, handle, lane, sector, buffer)
 
+    def replay(self, arena, work, log, answers):
+        """The number, how many records ran, and the offset; an answer past the buffer's end makes the buffer longer."""
+        records, stopped = ctypes.c_uint64(0xA5A5A5A5), ctypes.c_uint64(0xA5A5A5A5)
+        room = answers + GUARD
+        number = self.call("btt_replay", arena, work, log, memoryview(room)[: len(answers)], records, stopped)
+        answers[:] = room.removesuffix(GUARD)
+        return number, records.value, stopped.value
+
 
 class ModelLibrary:
     """The model behind the library's interface, so that the histories can be tried on mistakes of the model."""
 
-    def __init__(self, calls_module=calls, model_module=model):
-        self.calls, self.model = calls_module, model_module
+    def __init__(self, calls_module=calls, model_module=model, runlog_module=runlog):
+        self.calls, self.model, self.runlog = calls_module, model_module, runlog_module
 
     def make(self, arena, size, sectors, lanes, first, second):
         return self.model.make(arena, size, sectors, lanes, first, second)
@@ -174,3 +187,8 @@ class ModelLibrary:
 
     def write(self, arena, handle, lane, sector, buffer):
         return self.through(self.calls.write, arena, handle, lane, sector, buffer)
+
+    def replay(self, arena, work, log, answers):
+        replayed = self.runlog.replay(arena, work, log)
+        self.runlog.put_answers(replayed, answers)
+        return replayed.number, len(replayed.answers), replayed.stopped or 0

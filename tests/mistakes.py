@@ -1,7 +1,7 @@
-"""The model with one deliberate mistake, in the place of a library, to see that the histories find it.
+"""The model with one deliberate mistake, in the place of a library, to see that the histories, the runs and the logs find it.
 
 A mistake is an edit of the model's text. Run as a program it says how many histories each takes, and fails if one is not found.
-The mistakes of PROMISED are put into both sides as well, where only the promises of the rules can find them.
+The mistakes of PROMISED, and most of the replay, are put into both sides as well, where only the promises of the rules can find them.
 """
 import contextlib
 import pathlib
@@ -14,9 +14,11 @@ import checksums
 import histories
 import library
 import model
+import replay
 
 HERE = pathlib.Path(__file__).resolve().parent
 LIMIT = 600
+LOG_LIMIT = 150
 
 TALLY = "k, words = record.made, f.size // 4"
 DATA = "record.block + 4 * k, int.from_bytes(buffer[4 * k : 4 * k + 4]"
@@ -152,6 +154,58 @@ CHECKSUM_MISTAKES = {
     "a block of 1,022 words": ("return fletcher64(words)", "return fletcher64(words[:1022])"),
 }
 
+RUN = "        answer, handle = ran(arena, work, handle, len(replayed.answers), *found)\n"
+BEGUN = "    replayed, at = Replayed(first), 0\n"
+RAN = "        replayed.answers.append(answer)\n"
+OPENED = "    first, handle = opened(arena, work)\n"
+LONG = "    if len(log) > LOG_LIMIT:\n"
+STOPPED = "            replayed.stopped = at\n"
+LENT = "    return calls.step(arena, handle, lane, lent(index, handle.figures.size)), handle\n"
+BEGINS = "    if not any(record.made for record in handle.records[lane : lane + 1]):\n"
+FIRST_LENT = "    begun = handle.__dict__.setdefault('begun', {})\n" + BEGINS + "        begun[lane] = index\n"
+WRONG = "    if LENGTHS.get(kind) != length or len(log) - at < length:\n"
+FIT = "    answers[:fit] = bytes(replayed.answers[:fit])\n"
+CUT_OPENED = "    if kind == CUT:\n        return opened(arena, work)\n"
+
+# The same, of the replay: the kept logs and the random ones find them.
+REPLAY_MISTAKES = {
+    "index counted over steps only": (
+        BEGUN, BEGUN + "    steps = 0\n", RUN, RUN.replace("len(replayed.answers)", "steps") + "        steps += found[0] == STEP\n"
+    ),
+    "index counted over accepted records": (RUN, RUN.replace("len(replayed.answers)", "replayed.answers.count(0)")),
+    "index from 1": (RUN, RUN.replace("len(replayed.answers)", "len(replayed.answers) + 1")),
+    "index restarted at a cut": (
+        BEGUN, BEGUN + "    index = 0\n", RUN, RUN.replace("len(replayed.answers)", "index") + "        index = 0 if found[0] == CUT else index + 1\n"
+    ),
+    "index is the record's offset": (RUN, RUN.replace("len(replayed.answers)", "at")),
+    "the word taken from the first step's buffer": (LENT, FIRST_LENT + LENT.replace("index", "begun.get(lane, index)")),
+    "every word is the index": ("*range(index, index + size // 4))", "*[index] * (size // 4))"),
+    "a refused record ends the replay": (RAN, RAN + "        if answer:\n            break\n"),
+    "20 at the record's end": (STOPPED, STOPPED.replace("= at", "= at + int.from_bytes(log[at : at + 2], 'little')")),
+    "20 at the end of the record's header": (STOPPED, STOPPED.replace("= at", "= min(len(log), at + 4)")),
+    "the record that ends the replay has an answer": (STOPPED, STOPPED + "            replayed.answers.append(20)\n"),
+    "a longer log judged before the opening": (OPENED, LONG + "        return Replayed(0, [], 0)\n" + OPENED),
+    "a longer log is run up to 8,192 bytes": (LONG + "        replayed.stopped = 0\n        return replayed\n", "    log = log[:LOG_LIMIT]\n"),
+    "8,192 bytes are too long": (LONG, LONG.replace(">", ">=")),
+    "a rest below 4 bytes is passed over": ("    while at < len(log):\n", "    while at + 4 <= len(log):\n"),
+    "zero bytes end the log": ("    while at < len(log):\n", "    while at < len(log) and any(log[at:]):\n"),
+    "a short record runs": (WRONG, "    log = bytes(log) + bytes(10)\n    if LENGTHS.get(kind) != length:\n"),
+    "a record's length is not judged": (WRONG, WRONG.replace("LENGTHS.get(kind) != length", "kind not in LENGTHS")),
+    "a longer record than its kind's will do": (WRONG, WRONG.replace("!= length", "is None or LENGTHS[kind] > length")),
+    "the length read as a byte": (WRONG, "    length &= 255\n" + WRONG),
+    "the kind read as a byte": (WRONG, "    kind &= 255\n" + WRONG),
+    "the lane read as a byte": ("    return kind, lane, sector\n", "    return kind, lane & 255, sector\n"),
+    "the sector read as two bytes": ("    return kind, lane, sector\n", "    return kind, lane, sector & 65535\n"),
+    "an unknown kind is a cut": (WRONG, "    kind = kind if kind in LENGTHS else CUT\n" + WRONG),
+    "a cut does not open": (CUT_OPENED, CUT_OPENED.replace("opened(arena, work)", "0, handle")),
+    "a cut does not mend": (CUT_OPENED, CUT_OPENED.replace("opened(arena, work)", "opened(bytearray(arena), work)")),
+    "what ran before does not stay": (OPENED, OPENED + "    kept = bytes(arena)\n", STOPPED, STOPPED + "            arena[:] = kept\n"),
+    "answers past a short buffer": (FIT, "    answers[: len(replayed.answers)] = bytes(replayed.answers)\n"),
+    "a short buffer gets no answer": (FIT, "    if fit == len(replayed.answers):\n    " + FIT),
+    "a short buffer gets the last answers": (FIT, FIT.replace("answers[:fit])", "answers[len(replayed.answers) - fit :])")),
+    "the rest of the answers is cleared": (FIT, FIT + "    answers[fit:] = bytes(len(answers) - fit)\n"),
+}
+
 # Mistakes that the promises find with no library to compare with.
 PROMISED = """sequence before new, map word before the flog, flog before the data, data words in falling order, data into the old block,
 the newer half is overwritten, a lane's pair is 32 bytes, map word without its flags, map word of the old block, two stores in a step,
@@ -162,6 +216,11 @@ a zeroed sector shows its block, a zeroed sector is bad, the flags exchanged, 9 
 the larger sequence is newer, new is free where the map lacks it, count of stores made, count of all lanes, cut opening makes one store at least,
 cut opening makes all stores, mended to a zeroed sector, step: 10 before 14, start: 9 before 12, write: 10 before 9,
 write: 13 before 10""".replace("\n", " ").split(", ")
+
+# The mistakes of the replay that only a comparison finds; the kept outputs, which are not taken from the model, and the promise find the others.
+ONLY_COMPARED = (
+    "answers past a short buffer", "a short buffer gets no answer", "a short buffer gets the last answers", "the rest of the answers is cleared",
+)
 
 # 13 never meets 9: a write in flight to a sector past the last is 16.
 SAME = {("start", 9, 13)}
@@ -242,6 +301,30 @@ def tried_checksums(names):
     return missed
 
 
+def replays_needed(lib):
+    """How many random logs it takes, after the kept ones, to find a fault, and the fault; a crash is one too."""
+    try:
+        _, last, fault = replay.run(lib, LOG_LIMIT)
+    except Exception as crash:
+        return "crash", repr(crash)
+    return (last, fault) if fault else (None, "not found")
+
+
+def tried_replays(names):
+    """Tries these mistakes of the replay in the place of the library, and on both sides too; says which are not found."""
+    missed = ["no such mistake: " + name for name in set(ONLY_COMPARED) - set(REPLAY_MISTAKES)]
+    for name in names:
+        began, edit = time.process_time(), REPLAY_MISTAKES[name]
+        needed, fault = replays_needed(library.ModelLibrary(runlog_module=edited("runlog", *edit)))
+        alone = "-"
+        if name not in ONLY_COMPARED:
+            with on_both_sides("runlog", edit) as lib:
+                alone, fault = replays_needed(lib)
+        missed += [name] if None in (needed, alone) else []
+        print("%-48s %5s %5s %6.1f s  %s" % (name, needed, alone, time.process_time() - began, fault), flush=True)
+    return missed
+
+
 def main(words):
     """Tries every mistake, or those whose names have one of these words."""
     edits = [("calls", name, edit) for name, edit in {**CALL_MISTAKES, **swapped_orders()}.items()]
@@ -259,7 +342,9 @@ def main(words):
         missed += [name] if None in (needed, alone) else []
         print("%-40s %5s %5s %6.1f s  %s" % (name, needed, alone, time.process_time() - began, fault.split(", after")[0]), flush=True)
     missed += tried_checksums([name for name in CHECKSUM_MISTAKES if not words or any(word in name for word in words)])
-    print("mistakes: %d, not found: %s" % (len(edits) + len(CHECKSUM_MISTAKES), ", ".join(missed) or "none"))
+    missed += tried_replays([name for name in REPLAY_MISTAKES if not words or any(word in name for word in words)])
+    count = len(edits) + len(CHECKSUM_MISTAKES) + len(REPLAY_MISTAKES)
+    print("mistakes: %d, not found: %s" % (count, ", ".join(missed) or "none"))
     return 1 if missed else 0
 
 

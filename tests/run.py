@@ -1,8 +1,8 @@
 """Compares what the programs and the library do with the model.
 
-The report is run on every arena of tests/arenas and on random ones; what `cases` and `runs` must write (rt runs them) has to be what the
+The report is run on every arena of tests/arenas and on random ones; what `cases`, `runs` and `replay` must write (rt runs them) has to be what the
 model works out; the checksums of random runs of words and of changed info blocks are the model's; the library goes through random
-histories of calls, call by call beside the model.
+histories of calls, call by call beside the model; the kept run logs of tests/logs and random ones are replayed by the library and the program.
 """
 import collections
 import pathlib
@@ -17,12 +17,14 @@ import histories
 import library
 import model
 import random_arenas
+import replay
 import running_cases
 
 TOP = pathlib.Path(__file__).resolve().parent.parent
 REPORT = TOP / "target" / "bin" / "report"
 RANDOM = 600
 HISTORIES = 3000
+LOGS = 400
 
 
 def check_arena(name, arena):
@@ -77,6 +79,18 @@ def check_histories(lib):
     return ["history %d: %s" % (last, fault)] if fault else ["histories: never seen: " + line for line in histories.unseen(notes)]
 
 
+def check_replays(lib):
+    """What is wrong with the replays of the library and of the program, as lines."""
+    began = time.process_time()
+    notes, last, fault = replay.run(lib, LOGS)
+    wrong, count = replay.check_program()
+    wrong += replay.check_stored()
+    took = time.process_time() - began
+    print("tests: %d random logs, %d records, %d replays by the program, %.0f s" % (last, sum(notes.seen.values()), count, took))
+    wrong += ["random log %d: %s" % (last, fault)] if fault else ["replays: never seen: " + line for line in replay.unseen(notes)]
+    return wrong
+
+
 def main():
     built = arenas.all_arenas()
     stray = {p.stem for p in arenas.HERE.iterdir()} - set(built)
@@ -94,7 +108,7 @@ def main():
     if (cases.CASES / "stdout").read_text() != cases.text():
         wrong.append("cases: the stored text is not the model's")
     lib = library.built()
-    wrong += check_running_cases() + check_checksums(lib) + check_histories(lib)
+    wrong += check_running_cases() + check_checksums(lib) + check_histories(lib) + check_replays(lib)
     for line in wrong:
         print("tests: " + line)
     print("tests: %d named and %d random arenas, answers %s, %d faults" % (len(built), RANDOM, dict(sorted(answers.items())), len(wrong)))

@@ -39,7 +39,8 @@ enum btt_answer {
     BTT_SECTOR_BUSY = 13,       /* another lane has that sector in flight */
     BTT_LANE_IDLE = 14,         /* the lane has no write in flight */
     BTT_BAD_SECTOR = 15,        /* the sector read is marked bad: its map word has bit 30 (Error) alone */
-    BTT_BAD_HANDLE = 16         /* the handle breaks a figure, has a record out of range, or does not match the arena's length */
+    BTT_BAD_HANDLE = 16,        /* the handle breaks a figure, has a record out of range, or does not match the arena's length */
+    BTT_BAD_RECORD = 20         /* a record of the log is short, has another length than its kind, or an unknown kind; or the log is too long */
 };
 
 enum {
@@ -49,7 +50,9 @@ enum {
     BTT_ID_SIZE = 16,           /* bytes of an identifier */
     BTT_MAX_LANES = 16,
     BTT_LANE_SIZE = 28,         /* bytes of a struct btt_lane */
-    BTT_HANDLE_SIZE = 512       /* bytes of a struct btt_handle */
+    BTT_HANDLE_SIZE = 512,      /* bytes of a struct btt_handle */
+    BTT_MAX_LOG = 8192,         /* bytes of the longest run log */
+    BTT_MAX_RECORDS = 2048      /* the most records that a run log has: an answers buffer of that length always suffices */
 };
 
 /* A lane's record. */
@@ -156,6 +159,24 @@ uint32_t btt_lane_record(const uint8_t *arena, size_t arena_length, const struct
  */
 uint32_t btt_next_store(const uint8_t *arena, size_t arena_length, const struct btt_handle *handle, uint32_t lane, uint64_t *offset);
 
+/*
+ * Replays a run log on an arena: opens it and runs the log's records in order, as the calls above would be made. A log is at most 8,192
+ * bytes of records, one after another, little-endian: the length of the whole record and its kind (16 bits each), then what the kind has.
+ *   kind 1, length 10   a start: lane (16 bits), sector (32 bits)
+ *   kind 2, length 6    a step: lane (16 bits); word k of the sector buffer that it lends is k + the record's number
+ *   kind 3, length 4    a power cut and a new opening, with the same work buffer
+ * Records are numbered from 0, all of them and on across kind 3. A record that is refused has its answer and does not end the replay. One
+ * that is short, has another length than its kind, or is of another kind ends it with 20; what ran before stays. A log that is longer ends
+ * with 20 at offset 0, after the opening.
+ * The work buffer is as for btt_open. answers gets a byte for each record that ran, its answer; a short buffer gets the first that fit, all
+ * else being as with a long one, and bytes past those are unchanged. *records is the number of records that ran, and *stopped the byte
+ * offset at which the record begins that ended the replay, 0 if none did.
+ * Answers 1 to 8 of the opening, then 20. On 1 to 8 nothing ran: arena and work buffer are as btt_open leaves them, answers is unchanged,
+ * and both numbers are 0.
+ */
+uint32_t btt_replay(uint8_t *arena, size_t arena_length, uint8_t *work, size_t work_length, const uint8_t *log, size_t log_length,
+                    uint8_t *answers, size_t answers_length, uint64_t *records, uint64_t *stopped);
+
 /* An answer in words, for messages. */
 static inline const char *btt_answer_text(uint32_t answer)
 {
@@ -179,6 +200,9 @@ static inline const char *btt_answer_text(uint32_t answer)
         "the handle does not fit the arena, or has a record out of range"
     };
 
+    if (answer == BTT_BAD_RECORD) {
+        return "a record of the log is short, of another length than its kind's or of no known kind, or the log is longer than 8,192 bytes";
+    }
     return answer < sizeof text / sizeof text[0] ? text[answer] : "not an answer";
 }
 

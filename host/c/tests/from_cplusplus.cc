@@ -13,5 +13,8 @@ int main()
     if (offset != 0 || length != 0 || btt_open(none, 0, none, 0, &handle, &mended) != BTT_WRONG_LENGTH || mended != 0) {
         return 1;
     }
+    if (btt_replay(none, 0, none, 0, NULL, 0, NULL, 0, &offset, &length) != BTT_WRONG_LENGTH || btt_answer_text(BTT_BAD_RECORD)[0] == '\0') {
+        return 1;
+    }
     return btt_lane_record(NULL, 0, &handle, 0, &record) == BTT_BAD_HANDLE && btt_answer_text(BTT_BAD_HANDLE)[0] != '\0' ? 0 : 1;
 }

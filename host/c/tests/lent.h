@@ -14,7 +14,7 @@
 
 #include "check.h"
 
-enum part { ARENA, WORK, HANDLE, MENDED, BUFFER, RECORD, OFFSET, LENGTH, FIRST_ID, SECOND_ID, PARTS };
+enum part { ARENA, WORK, HANDLE, MENDED, BUFFER, RECORD, OFFSET, LENGTH, FIRST_ID, SECOND_ID, LOG, ANSWERS, RECORDS, STOPPED, PARTS };
 
 #define ONLY(part) (1u << (part))
 enum { NOTHING = 0, GUARD = 0xA7 };
@@ -88,7 +88,8 @@ static int kept(const struct lent *x, int may_change)
 static void answered(uint32_t want, uint32_t got, unsigned may, const char *file, int line, const char *call)
 {
     static const char *const names[] = {
-        "arena", "work buffer", "handle", "mended", "sector buffer", "record", "offset", "length", "first identifier", "second identifier"
+        "arena", "work buffer", "handle", "mended", "sector buffer", "record", "offset", "length", "first identifier", "second identifier",
+        "log", "answers", "records", "stopped"
     };
     char text[200];
 
@@ -184,6 +185,12 @@ static inline uint32_t next_store(uint32_t lane)
     return btt_next_store(SLICE(ARENA), handle, lane, (uint64_t *)(void *)lent[OFFSET].at);
 }
 
+static inline uint32_t replay(void)
+{
+    return btt_replay(SLICE(ARENA), SLICE(WORK), SLICE(LOG), SLICE(ANSWERS), (uint64_t *)(void *)lent[RECORDS].at,
+                      (uint64_t *)(void *)lent[STOPPED].at);
+}
+
 static inline uint32_t mended(void)
 {
     return get32(lent[MENDED].at);
@@ -202,6 +209,10 @@ static inline void fresh(uint32_t size, uint32_t sectors, uint32_t lanes)
     lend(LENGTH, 8);
     lend(FIRST_ID, 16);
     lend(SECOND_ID, 16);
+    lend(LOG, 0);
+    lend(ANSWERS, BTT_MAX_RECORDS);
+    lend(RECORDS, 8);
+    lend(STOPPED, 8);
     CALL(0, ONLY(ARENA), make(size, sectors, lanes));
     CALL(0, ONLY(WORK) | ONLY(HANDLE) | ONLY(MENDED), open_arena());
     CHECK(mended() == 0);
@@ -237,7 +248,7 @@ static int run(const char *name, const test *tests, size_t count)
         }
     }
     printf("%s: %lu checks, answers", name, checks);
-    for (unsigned answer = 0; answer <= BTT_BAD_HANDLE; answer++) {
+    for (unsigned answer = 0; answer <= BTT_BAD_RECORD; answer++) {
         if (answers >> answer & 1) {
             printf(" %u", answer);
         }

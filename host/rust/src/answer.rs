@@ -4,7 +4,8 @@ use std::fmt;
 
 /// Why a call was refused. The numbers are those of the library's table; an accepted call has no answer but `Ok`.
 ///
-/// A refused call changes no byte of the arena, of the sector buffer or of the handle.
+/// A refused call changes no byte of the arena, of the sector buffer or of the handle. [`BadRecord`](Answer::BadRecord) is no call's: it
+/// says why a [replay](crate::Arena::replay) ended.
 ///
 /// ```
 /// use btt::Answer;
@@ -49,11 +50,13 @@ pub enum Answer {
     BadSector = 15,
     /// 16: the handle breaks a figure, has a record out of range, or does not match the arena's length.
     BadHandle = 16,
+    /// 20: a record of a run log is short, has another length than its kind, or is of no known kind; or the log is too long.
+    BadRecord = 20,
 }
 
 impl Answer {
-    /// All the answers, in the order of their numbers from 1.
-    pub const ALL: [Answer; 16] = [
+    /// All the answers, in the order of their numbers.
+    pub const ALL: [Answer; 17] = [
         Answer::WrongLength,
         Answer::NoInfoBlock,
         Answer::ForbiddenFigure,
@@ -70,14 +73,15 @@ impl Answer {
         Answer::LaneIdle,
         Answer::BadSector,
         Answer::BadHandle,
+        Answer::BadRecord,
     ];
 
-    /// The answer's number in the library's table, 1 to 16.
+    /// The answer's number in the library's table, 1 to 16 or 20.
     pub fn number(self) -> u32 {
         self as u32
     }
 
-    /// The answer of that number; none for 0, which is acceptance, and for numbers past 16.
+    /// The answer of that number; none for 0, which is acceptance, and for numbers that the table does not have.
     pub fn from_number(number: u32) -> Option<Answer> {
         Answer::ALL.into_iter().find(|answer| answer.number() == number)
     }
@@ -87,7 +91,7 @@ impl Answer {
         match (number, Answer::from_number(number)) {
             (0, _) => Ok(()),
             (_, Some(answer)) => Err(answer),
-            (_, None) => unreachable!("the library answers 0 to 16, not {number}"),
+            (_, None) => unreachable!("the library answers 0 to 16 or 20, not {number}"),
         }
     }
 }
@@ -116,6 +120,9 @@ impl fmt::Display for Answer {
             Answer::LaneIdle => "the lane has no write in flight to go on with",
             Answer::BadSector => "the sector is marked bad, and cannot be read until it is written",
             Answer::BadHandle => "the handle does not belong to an arena of this length, or is damaged",
+            Answer::BadRecord => {
+                "the log has a record that is short, of another length than its kind's or of no known kind, or is longer than 8,192 bytes"
+            }
         })
     }
 }
@@ -128,14 +135,14 @@ mod tests {
 
     #[test]
     fn numbers_go_both_ways() {
-        for (i, answer) in Answer::ALL.into_iter().enumerate() {
-            assert_eq!(answer.number() as usize, i + 1);
+        for (answer, number) in Answer::ALL.into_iter().zip((1..=16).chain([20])) {
+            assert_eq!(answer.number(), number);
             assert_eq!(Answer::from_number(answer.number()), Some(answer));
             assert_eq!(Answer::outcome(answer.number()), Err(answer));
             assert!(answer.to_string().len() > 20);
         }
         assert_eq!(Answer::from_number(0), None);
-        assert_eq!(Answer::from_number(17), None);
+        assert!([17, 18, 19, 21, u32::MAX].into_iter().all(|number| Answer::from_number(number).is_none()));
         assert_eq!(Answer::outcome(0), Ok(()));
     }
 }

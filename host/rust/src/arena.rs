@@ -69,7 +69,7 @@ impl<'a> Arena<'a> {
     }
 
     /// The address for the library: null where there are no bytes.
-    fn address(&mut self) -> *mut u8 {
+    pub(crate) fn address(&mut self) -> *mut u8 {
         if self.bytes.is_empty() {
             ptr::null_mut()
         } else {

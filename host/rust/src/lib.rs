@@ -31,7 +31,7 @@
 //!
 //! [`OpenArena`] is enough for most. Below it are the calls: [`Arena`] and, for those that only read, [`ArenaRef`], with a [`Handle`]
 //! that opening gives and the host keeps. A refusal is an [`Answer`] with the number of the library's table. Nothing is kept between
-//! calls and nothing is allocated below [`OpenArena`] and [`AlignedBytes`].
+//! calls and nothing is allocated below [`OpenArena`] and [`AlignedBytes`], but in [`Arena::replay`], which runs a log of calls again.
 //!
 //! # Power cuts
 //!
@@ -105,6 +105,7 @@ mod arena;
 mod geometry;
 mod handle;
 mod open_arena;
+mod replay;
 pub mod sys;
 mod view;
 
@@ -114,4 +115,5 @@ pub use arena::{Arena, Opened};
 pub use geometry::{Geometry, Identifiers, ID_SIZE, INFO_SIZE, MAX_ARENA, MAX_BLOCKS, MIN_ARENA};
 pub use handle::{Handle, Lane, HANDLE_SIZE, LANE_SIZE, MAX_LANES};
 pub use open_arena::{OpenArena, Store};
+pub use replay::{Replay, MAX_LOG, MAX_RECORDS};
 pub use view::{ArenaRef, Misaligned};

@@ -75,4 +75,20 @@ extern "C" {
 
     /// Where a lane's next step stores: see [`ArenaRef::next_store`](crate::ArenaRef::next_store). A refusal leaves the offset.
     pub fn btt_next_store(arena: *const u8, arena_length: usize, handle: *const Handle, lane: u32, offset: *mut u64) -> u32;
+
+    /// Replays a run log: see [`Arena::replay`](crate::Arena::replay). The number is that of the opening, else 20 if a record ended the
+    /// replay, else 0. The answers get a byte for each record that ran, as many as fit; the two numbers are how many ran, and the byte
+    /// offset at which the record begins that ended the replay, 0 if none did.
+    pub fn btt_replay(
+        arena: *mut u8,
+        arena_length: usize,
+        work: *mut u8,
+        work_length: usize,
+        log: *const u8,
+        log_length: usize,
+        answers: *mut u8,
+        answers_length: usize,
+        records: *mut u64,
+        stopped: *mut u64,
+    ) -> u32;
 }

@@ -2,19 +2,21 @@
 //!
 //! The tests of host/rust try the library against it, and bench times the library beside it. Its calls take the same arguments, make
 //! the same checks in the same order and leave the same bytes as the library's. With the library's wrapper it shares the types that
-//! stand at the boundary, and no code: a handle, its lanes, and the answers.
+//! stand at the boundary, and no code: a handle, its lanes, the answers, and what a replay did.
 //!
 //! No call is inlined, so that a loop that times it pays for a call, as with the library.
 mod bytes;
 mod format;
 mod making;
 mod opening;
+mod replay;
 mod running;
 
 pub use bytes::{long, put_long, put_word, word};
 pub use format::{counting, figures_of, info_block_of, length_allowed, seal};
 pub use making::{made_figures, make};
 pub use opening::{cut_open, info_block, open};
+pub use replay::replay;
 pub use running::{lane, next_store, read, start, step, write};
 
 use btt::Answer;

@@ -1,6 +1,7 @@
 //! The library and the plain program side by side: each call is made on both, and everything that it gives or leaves is compared.
 use super::number;
-use btt::{AlignedBytes, Answer, Arena, ArenaRef, Geometry, Handle, Identifiers, Opened};
+use super::raw::Raw;
+use btt::{AlignedBytes, Answer, Arena, ArenaRef, Geometry, Handle, Identifiers, Opened, Replay, MAX_BLOCKS};
 use std::fmt::Debug;
 
 /// An arena and a handle in the library's hands, and the same arena in the plain program's.
@@ -119,6 +120,20 @@ impl Both {
     pub fn next_store(&self, lane: u32) -> u32 {
         let found = self.view().next_store(&self.handle, lane);
         self.same("next_store", found, plain::next_store(&self.plain, &self.handle, lane))
+    }
+
+    /// Replays a log with the wrapper's own buffers, and again as C sees it with buffers of these bytes.
+    #[track_caller]
+    pub fn replay(&mut self, log: &[u8], work: &[u8], answers: &[u8]) -> Result<Replay, Answer> {
+        let mut raw = Raw { arena: self.arena.clone(), work: work.to_vec(), answers: answers.to_vec(), numbers: (0, 7, 7) };
+        raw.replay(log);
+        let (mut lent, mut short) = (self.plain.clone(), work.to_vec());
+        let expected = plain::replay(&mut lent, &mut short, log);
+        assert!(raw == Raw::expected(&expected, lent, short, answers), "btt_replay gives and leaves");
+        let found = self.lent().replay(log);
+        let expected = plain::replay(&mut self.plain, &mut [0; MAX_BLOCKS], log);
+        self.same("replay", found.clone(), expected);
+        found
     }
 
     /// Makes each call that takes a handle on a copy, with these numbers, and gives the answers.

@@ -4,7 +4,9 @@ pub mod arenas;
 pub mod both;
 pub mod chance;
 pub mod folder;
+pub mod logs;
 pub mod place;
+pub mod raw;
 
 use btt::{AlignedBytes, Answer, Geometry, Identifiers, MAX_BLOCKS};
 

@@ -20,10 +20,12 @@ btt: sectors that a power cut cannot tear, in a file that holds one arena of a b
   btt read FILE N              writes sector N to standard output
   btt write FILE N             writes sector N from standard input, just S bytes; killed at any moment, it leaves the
                                sector as it was or as it is to be, whole
+  btt replay IMAGE LOG         opens the arena of a file and runs a log of starts, steps and power cuts on it; a line for
+                               each record that ran, N ok or N refused R, and stopped 20 at B where a record is bad
   btt --help, btt --version
 
 After -- every word is a plain one, so that a file's name may begin with a dash.
-report, dump and read do not change the file: what opening mends they mend in memory.
+report, dump, read and replay do not change a file: what opening mends and a log stores they do in memory.
 Exit status: 0 done; 1 refused, with the number of the answer and what it means on standard error; 2 the command
 line is not understood; 3 a file, or standard output, cannot be read or written.
 ";
@@ -38,6 +40,7 @@ pub enum Command {
     Dump,
     Read { sector: u32 },
     Write { sector: u32 },
+    Replay { log: OsString },
 }
 
 /// The arena that make is asked for.
@@ -97,6 +100,7 @@ pub fn parse(given: impl Iterator<Item = OsString>) -> Result<Arguments, Problem
         Some("dump") => words.without_options()?.only(2).map(|_| Command::Dump)?,
         Some("read") => Command::Read { sector: words.without_options()?.only(3)?.sector()? },
         Some("write") => Command::Write { sector: words.without_options()?.only(3)?.sector()? },
+        Some("replay") => Command::Replay { log: words.without_options()?.only(3)?.plain[2].clone() },
         Some(other) => return Err(Problem::Usage(format!("{other} is no command"))),
         None => return Err(Problem::Usage("no command is given".into())),
     };
@@ -235,6 +239,7 @@ mod tests {
         assert_eq!(parsed("write a 7").unwrap().command, Command::Write { sector: 7 });
         assert_eq!(parsed("report a").unwrap().command, Command::Report);
         assert_eq!(parsed("dump a").unwrap().command, Command::Dump);
+        assert_eq!(parsed("replay a b").unwrap().command, Command::Replay { log: "b".into() });
         assert_eq!(parsed("read --help").unwrap().command, Command::Help);
         assert_eq!(parsed("-V").unwrap().command, Command::Version);
     }
@@ -269,7 +274,7 @@ mod tests {
             |make a --sectors 60 --size 512 --size 512|make a --sectors 60 --id 0|make a --sectors 60 --id xx|report a --force\
             |make a b --sectors 60|make a --sectors 60 --other 1|make a --sectors +60|make a --sectors 60 --size +512\
             |make a --bytes|make a --bytes M|make a --bytes 1G|make a --bytes +1M|make a --bytes 1.5M|make a --bytes 4294967296|--|-- --help\
-            |read -- a 7 --force|report -";
+            |read -- a 7 --force|report -|replay|replay a|replay a b c|replay a b --force|replay a b --size 512";
         for line in lines.split('|') {
             assert!(matches!(parsed(line), Err(Problem::Usage(_))), "{line}");
         }

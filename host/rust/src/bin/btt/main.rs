@@ -1,4 +1,5 @@
-//! The command btt: makes an arena of a block translation table in a file, reports on it, and reads and writes its sectors.
+//! The command btt: makes an arena of a block translation table in a file, reports on it, reads and writes its sectors, and replays
+//! run logs on it.
 mod arguments;
 mod file;
 mod making;
@@ -43,6 +44,7 @@ fn run(arguments: Arguments) -> Result<(), Problem> {
         Command::Dump => told(&arguments.file, text::dump),
         Command::Read { sector } => read(&arguments.file, sector),
         Command::Write { sector } => write(&arguments.file, sector),
+        Command::Replay { log } => replay(&arguments.file, &log),
     }
 }
 
@@ -54,6 +56,14 @@ fn lent(bytes: &mut AlignedBytes) -> Arena<'_> {
 /// Prints what is to be told of the arena in a file; the file is not changed.
 fn told(file: &OsStr, tell: fn(&mut AlignedBytes) -> (String, Result<(), Answer>)) -> Result<(), Problem> {
     let (text, outcome) = tell(&mut file::load(file)?);
+    print(text.as_bytes())?;
+    Ok(outcome?)
+}
+
+/// Prints what a run log answers on the arena in a file; neither file is changed.
+fn replay(file: &OsStr, log: &OsStr) -> Result<(), Problem> {
+    let (mut bytes, log) = (file::load(file)?, file::load(log)?);
+    let (text, outcome) = text::replay(&mut bytes, &log);
     print(text.as_bytes())?;
     Ok(outcome?)
 }

@@ -35,6 +35,14 @@ pub fn report(bytes: &mut AlignedBytes) -> Told {
     (text, outcome)
 }
 
+/// What a run log answers on an arena, as the program replay of the repository gives it, for arenas of every length.
+pub fn replay(bytes: &mut AlignedBytes, log: &[u8]) -> Told {
+    let mut text = String::new();
+    let outcome = lent(bytes).replay(log).map(|replay| text = replay.to_string());
+    refused(&mut text, outcome);
+    (text, outcome)
+}
+
 /// Adds the line of a refusal, if there was one.
 fn refused(text: &mut String, outcome: Result<(), Answer>) {
     if let Err(answer) = outcome {

@@ -1,0 +1,186 @@
+//! Replays of run logs: the library against the plain program, the words that a replayed write leaves, and the command.
+mod support;
+
+use btt::{Answer, Arena, OpenArena, Replay, MAX_BLOCKS, MAX_LOG, MAX_RECORDS};
+use plain::word;
+use std::fs;
+use support::both::Both;
+use support::chance::Chance;
+use support::logs::{cut, damage, start, step, well_formed, write};
+use support::place::Place;
+use support::raw::Raw;
+use support::{arenas, made, GEOMETRY};
+
+/// The figures of an arena that opens.
+fn figures(arena: &[u8]) -> btt::Handle {
+    plain::open(&mut arena.to_vec(), &mut [0; MAX_BLOCKS]).unwrap().handle
+}
+
+/// A replay on the arena of the worked cases, and the arena after it.
+fn replayed(log: &[u8]) -> (Replay, Both) {
+    let mut both = Both::new(&made(GEOMETRY));
+    let replay = both.replay(log, &[9; 64], &[9; 300]).unwrap();
+    (replay, both)
+}
+
+#[test]
+fn logs_are_answered_alike() {
+    let mut chance = Chance::new(61);
+    let (mut answers, mut stops) = ([0; 21], 0);
+    for _ in 0..600 {
+        let arena = arenas::valid(&mut chance);
+        let figures = figures(&arena);
+        let mut log = well_formed(&mut chance, &figures);
+        if chance.once_in(2) {
+            damage(&mut chance, &mut log);
+        }
+        let room = figures.blocks as usize - usize::from(chance.once_in(8));
+        let (work, told) = (chance.bytes(room), chance.pick(&[0, 1, 5, 200, MAX_RECORDS, MAX_RECORDS + 9]));
+        let told = chance.bytes(told);
+        let replay = Both::new(&arena).replay(&log, &work, &told).unwrap();
+        stops += usize::from(replay.stopped.is_some());
+        replay.answers.iter().for_each(|answer| answers[support::number(answer) as usize] += 1);
+    }
+    assert!([0, 9, 11, 12, 13, 14].into_iter().all(|number| answers[number] > 20), "every answer came: {answers:?}");
+    assert!((100..500).contains(&stops), "bad records and none: {stops}");
+}
+
+#[test]
+fn damaged_arenas_are_refused_alike() {
+    let mut chance = Chance::new(62);
+    let mut answers = [0; 9];
+    let log = [write(0, 0, 132), cut(), start(1, 1), vec![0]].concat();
+    for _ in 0..1500 {
+        let mut arena = arenas::valid(&mut chance);
+        arenas::damage(&mut chance, &mut arena);
+        let replay = Both::new(&arena).replay(&log, &chance.bytes(128), &chance.bytes(200));
+        answers[support::number(&replay) as usize] += 1;
+    }
+    let came = |number: usize| number == 5 || answers[number] > 5;
+    assert!((0..9).all(came), "every answer came: {answers:?}");
+}
+
+#[test]
+fn each_word_is_of_the_step_that_stored_it() {
+    for (steps, then, new) in
+        [(133, vec![], true), (132, cut(), true), (131, cut(), false), (132, vec![4, 0, 3], true), (0, cut(), false)]
+    {
+        let between = start(1, 60);
+        let log = [step(0), start(0, 7), step(0).repeat(steps / 2), between, step(0).repeat(steps - steps / 2), then].concat();
+        let (_, mut both) = replayed(&log);
+        let mut sector = [9; 512];
+        OpenArena::open(Arena::new(&mut both.arena).unwrap()).unwrap().read_sector(7, &mut sector).unwrap();
+        for k in 0..128 {
+            let index = 2 + k + usize::from(k >= steps / 2);
+            assert_eq!(word(&sector, 4 * k) as usize, if new { k + index } else { 0 }, "{steps} steps, word {k}");
+        }
+    }
+}
+
+#[test]
+fn records_are_answered_and_bad_ones_end_the_replay() {
+    let log = [step(3), start(4, 7), start(0, 60), start(0, 7), start(0, 8), start(1, 7), step(0), cut(), step(0)].concat();
+    let refused = [14, 11, 9, 0, 12, 13, 0, 0, 14].map(|number| Answer::from_number(number).map_or(Ok(()), Err));
+    assert_eq!(replayed(&log).0, Replay { answers: refused.to_vec(), stopped: None });
+    assert_eq!(replayed(&[]).0, Replay { answers: vec![], stopped: None });
+    for whole in [start(1, 8), step(0), cut()] {
+        for left in 1..whole.len() {
+            let (replay, both) = replayed(&[write(0, 7, 133), whole[..left].to_vec()].concat());
+            assert_eq!((replay.answers, replay.stopped), (vec![Ok(()); 134], Some(808)));
+            assert!(both.arena == replayed(&write(0, 7, 133)).1.arena, "what ran before stays");
+        }
+        for (place, value) in [(0, whole[0] + 1), (0, 0), (1, 1), (2, 0), (2, 4), (3, 1)] {
+            let mut bad = whole.clone();
+            bad[place] = value;
+            let (replay, _) = replayed(&[cut(), bad, cut()].concat());
+            assert_eq!((replay.answers, replay.stopped), (vec![Ok(())], Some(4)));
+        }
+    }
+}
+
+#[test]
+fn the_longest_log_runs_and_a_longer_one_does_not() {
+    let log = cut().repeat(MAX_RECORDS);
+    assert_eq!(log.len(), MAX_LOG);
+    assert_eq!(replayed(&log).0, Replay { answers: vec![Ok(()); MAX_RECORDS], stopped: None });
+    let pending = replayed(&write(2, 11, 132)).1.arena;
+    let mut both = Both::new(&pending);
+    let longer = both.replay(&[log, vec![0]].concat(), &[0; 64], &[]);
+    assert_eq!(longer, Ok(Replay { answers: vec![], stopped: Some(0) }));
+    assert!(both.arena != pending, "the opening's mending stays");
+}
+
+#[test]
+fn null_slices_are_empty_slices() {
+    use std::ptr::{null, null_mut};
+    let mut raw = Raw { arena: made(GEOMETRY), work: vec![9; 64], answers: vec![], numbers: (9, 9, 9) };
+    let before = raw.arena.clone();
+    let (_, records, stopped) = &mut raw.numbers;
+    // SAFETY: every pointer is of a value above that nothing else uses, or null with length 0.
+    unsafe {
+        let (arena, length, work) = (raw.arena.as_mut_ptr(), raw.arena.len(), raw.work.as_mut_ptr());
+        let (none, nothing) = (null_mut(), null());
+        assert_eq!(btt::sys::btt_replay(none, 0, work, 64, nothing, 0, none, 0, records, stopped), 1);
+        assert_eq!((*records, *stopped), (0, 0));
+        (*records, *stopped) = (9, 9);
+        assert_eq!(btt::sys::btt_replay(arena, length, none, 0, nothing, 0, none, 0, records, stopped), 5);
+        assert_eq!((*records, *stopped), (0, 0));
+        (*records, *stopped) = (9, 9);
+        assert_eq!(btt::sys::btt_replay(arena, length, work, 64, nothing, 0, none, 0, records, stopped), 0);
+        assert_eq!((*records, *stopped), (0, 0));
+        assert_eq!(btt::sys::btt_replay(arena, length, work, 64, cut().as_ptr(), 4, none, 0, records, stopped), 0);
+        assert_eq!((*records, *stopped), (1, 0));
+    }
+    assert!(raw.arena == before && raw.work == [0; 64]);
+}
+
+#[test]
+fn the_command_tells_a_replay_and_changes_no_file() {
+    let place = Place::new("replay");
+    let mut chance = Chance::new(63);
+    let mut ends = [0; 2];
+    for _ in 0..60 {
+        let mut arena = arenas::valid(&mut chance);
+        let mut log = well_formed(&mut chance, &figures(&arena));
+        match chance.below(3) {
+            0 => damage(&mut chance, &mut log),
+            1 => arenas::damage(&mut chance, &mut arena),
+            _ => {}
+        }
+        fs::write(place.path("image"), &arena).unwrap();
+        fs::write(place.path("log"), &log).unwrap();
+        let expected = plain::replay(&mut arena.clone(), &mut [0; MAX_BLOCKS], &log);
+        let number = support::number(&expected);
+        let lines = expected.map_or_else(|answer| format!("refused {}\n", answer.number()), |replay| replay.to_string());
+        let (status, out, said) = place.refused("replay image log", &[]);
+        assert_eq!((status, out), (i32::from(number != 0), lines));
+        assert!(if number == 0 { said.is_empty() } else { said.starts_with(&format!("btt: refused {number}: ")) });
+        assert!(fs::read(place.path("image")).unwrap() == arena && fs::read(place.path("log")).unwrap() == log);
+        ends[usize::from(number != 0)] += 1;
+    }
+    assert!(ends[0] > 20 && ends[1] > 5, "{ends:?}");
+    assert_eq!(place.names(), ["image", "log"]);
+}
+
+#[test]
+fn the_command_takes_arenas_of_every_length_and_needs_both_files() {
+    let place = Place::new("replays");
+    place.done("make long --bytes 16M", &[]);
+    fs::write(place.path("log"), [write(0, 32_483, 132), cut(), step(0), vec![4]].concat()).unwrap();
+    let told = String::from_utf8(place.done("replay long log", &[])).unwrap();
+    let lines: String = (0..134).map(|n| format!("{n} ok\n")).collect();
+    assert_eq!(told, lines + "134 refused 14\nstopped 20 at 812\n");
+    fs::write(place.path("none"), []).unwrap();
+    assert_eq!(place.done("replay long none", &[]), b"");
+    assert_eq!(place.refused("replay none log", &[]).1, "refused 1\n");
+    fs::write(place.path("longer"), vec![0; 100_000]).unwrap();
+    assert_eq!(place.done("replay long longer", &[]), b"stopped 20 at 0\n");
+    for (line, name) in
+        [("replay long nothing", "nothing"), ("replay nothing log", "nothing"), ("replay long .", "."), ("replay . log", ".")]
+    {
+        let (status, out, said) = place.refused(line, &[]);
+        assert_eq!((status, out.as_str()), (3, ""), "{line}");
+        assert!(said.starts_with(&format!("btt: {name}: ")), "{said}");
+    }
+    assert_eq!(place.redirected("replay long log", ">&-"), (3, "btt: standard output is closed\n".into()));
+}
