@@ -1,4 +1,4 @@
--- Records and logs said a second time, by their bytes as the wish has them.
+-- Records and logs said a second time, by their bytes.
 use mathlib.Core.Path.{_≡_}
 use mathlib.Core.Logic.{_≢_, _⊎_}
 use mathlib.Core.Bool.{true, false}
