@@ -9,5 +9,5 @@ pub limit-claim : LimitClaim
 unfolding transcriptOf
 limit-claim = record {
   longer = λ a log u. rw (lt-ltb maxArena (length a) (omega arith));
-  replayed = λ a log u. rw (le-ltb (length a) maxArena (omega arith));
+  replayed = λ a log u. rw (le-ltb maxArena (length a) (omega arith));
 }
