@@ -137,8 +137,9 @@ uint32_t btt_read(const uint8_t *arena, size_t arena_length, const struct btt_ha
 uint32_t btt_start(const uint8_t *arena, size_t arena_length, struct btt_handle *handle, uint32_t lane, uint32_t sector);
 
 /*
- * Makes the next store of the lane's write, one aligned word. After size / 4 + 5 steps the write is done and the lane idle. Every step
- * of a write is given the same sector buffer. Answers 16, 11, 14, 10; a refusal changes nothing.
+ * Makes the next store of the lane's write, one aligned word. After size / 4 + 5 steps the write is done and the lane idle. Give every
+ * step of a write the same sector buffer: a step stores the one word of it whose turn it is, so each word of the sector is from the buffer
+ * of its own step. Answers 16, 11, 14, 10; a refusal changes nothing.
  */
 uint32_t btt_step(uint8_t *arena, size_t arena_length, struct btt_handle *handle, uint32_t lane, const uint8_t *buffer,
                   size_t buffer_length);

@@ -19,7 +19,7 @@ use Rattle.layout.specs.Told.{alone}
 use Rattle.layout.specs.declared.Figures.{Figures}
 use Rattle.machine.specs.Rules.{answer}
 use Rattle.machine.specs.state.Handle.{Handle}
-use Rattle.machine.specs.calls.Opening.{figuresIn, openOf}
+use Rattle.machine.specs.calls.Opening.{Opening, figuresIn, openOf}
 use Rattle.machine.specs.calls.Reading.{readOf}
 use Rattle.machine.specs.calls.History.{State, Reply, opened, afterEvent, replyEvents, runEvents, openedFrom}
 use Rattle.machine.specs.models.Row.{Sector, holds, Row, storesOf, wordByWord, rowNumber, rowRead, rowOpenNumber, rowAfterEvent, rowReplies, firstRow, reopened}
@@ -93,7 +93,8 @@ module _ (f : Figures) (z : Sized f) where
       → SectorReads (f .size) (readOf (x .arena) (x .handle) s buffer) (readOf (y .arena) (y .handle) s buffer) (k .sector s)
   reads-by x y row₀ row k g g′ r r′ n s buffer u v =
       rw (read-is alone told-alone row₀ (x .arena) (x .handle) r s buffer, read-is alone told-alone row (y .arena) (y .handle) r′ s buffer, g, g′)
-      (rw (row-read f row₀ s buffer, row-read f row s buffer) (sector-reads (row₀ .sector s) (row .sector s) (k .sector s) (n .sector s) s buffer u v))
+      (rw (row-read f row₀ s buffer, row-read f row s buffer)
+      (sector-reads (row₀ .sector s) (row .sector s) (k .sector s) (n .sector s) s buffer u v))
 
 -- ---- the first opening
 
@@ -191,7 +192,8 @@ module _ (a work : List ℕ) (small : Small a) (small-work : Small work) (e : (o
 
       rep-again : Small again → RepIn alone (reopened f (followed .row)) (openedFrom alone (end .arena) again)
       rep-again q = subst (λ (y : State). RepIn alone (reopened f (followed .row)) y) opened-again
-          (subst (λ (y : Row). RepIn alone y (afterEvent alone end (opened again))) row-again (event-rep alone told-alone (followed .row) end rep-last (opened again) q))
+          (subst (λ (y : Row). RepIn alone y (afterEvent alone end (opened again))) row-again
+          (event-rep alone told-alone (followed .row) end rep-last (opened again) q))
 
       again-figures : (openedFrom alone (end .arena) again) .handle .figures ≡ f
       again-figures = alike-open alone told-alone end again (rep-last .held) opens .figures ∙ last-figures
@@ -233,10 +235,12 @@ module _ (a work : List ℕ) (small : Small a) (small-work : Small work) (e : (o
 -- ---- a refused opening
 
 module _ (a work log : List ℕ) (n : (openOf alone a work) .number ≢ 0) where
-  refused-is : replayOf a work log
-      ≡ record { first = (openOf alone a work) .number; numbers = []; stopped = false; at = 0; arena = (openOf alone a work) .arena; work = (openOf alone a work) .work }
+  abbrev o : Opening
+  o = openOf alone a work
+
+  refused-is : replayOf a work log ≡ record { first = o .number; numbers = []; stopped = false; at = 0; arena = o .arena; work = o .work }
   unfolding replayOf
-  refused-is = rw (ne-eqb ((openOf alone a work) .number) 0 n)
+  refused-is = rw (ne-eqb (o .number) 0 n)
 
   refused-for : RefusedFor a work log
   refused-for = record {

@@ -14,7 +14,7 @@ use Rattle.layout.specs.declared.Figures.{Figures}
 use Rattle.machine.specs.calls.Opening.{figuresIn, openOf}
 use Rattle.machine.specs.calls.Reading.{readOf}
 use Rattle.machine.specs.calls.History.{Reply, openedFrom}
-use Rattle.machine.specs.models.Row.{wordByWord, rowReplies, firstRow}
+use Rattle.machine.specs.models.Row.{Row, wordByWord, rowReplies, firstRow}
 use Rattle.machine.specs.claims.Exhibit.{exhibitFound, exhibitWork}
 use Rattle.machine.proofs.opening.Described.{told-alone}
 use Rattle.machine.proofs.opening.Opening.{opening-claim}
@@ -97,6 +97,9 @@ module _ (a work : List ℕ) (small : Small a) (small-work : Small work) (e : (o
   abbrev w : List ℕ
   w = (openOf alone a work) .work
 
+  abbrev first-row : Row
+  first-row = firstRow (openedFrom alone a work)
+
   figures-are : f ≡ freshFigures 512 60 4
   figures-are = opened-figures alone told-alone a work e ∙ figures
 
@@ -122,8 +125,8 @@ module _ (a work : List ℕ) (small : Small a) (small-work : Small work) (e : (o
   numbers-are : numbers a work exhibitLog ≡ 0 ∷ (replicate 132 0 ++ (13 ∷ 0 ∷ []))
   numbers-are =
       numbers-in-row a work small small-work e exhibitLog (log-small exhibitRecords)
-      ∙ ap (λ (rs : List Record). map (λ (r : Reply). r .number) (rowReplies wordByWord f (firstRow (openedFrom alone a work)) (eventsOf (f .size) w 0 rs))) records-are
-      ∙ replay-numbers f size-is sectors-are lanes-are w work-room (firstRow (openedFrom alone a work)) (λ l. refl)
+      ∙ ap (λ (rs : List Record). map (λ (r : Reply). r .number) (rowReplies wordByWord f first-row (eventsOf (f .size) w 0 rs))) records-are
+      ∙ replay-numbers f size-is sectors-are lanes-are w work-room first-row (λ l. refl)
 
   written-is : (ledger a work exhibitLog) .sector 7 ≡ by (rising 1 132)
   written-is =
@@ -142,7 +145,8 @@ module _ (a work : List ℕ) (small : Small a) (small-work : Small work) (e : (o
       → let end = last a work exhibitLog in byteWord ((readOf (end .arena) (end .handle) 7 buffer) .buffer) (4 * k) ≡ 2 * k + 1
   words-are buffer v k u =
       let end = last a work exhibitLog in
-      let r = replay-claim .opened a work exhibitLog small small-work (log-small exhibitRecords) e .1 .sectors 7 buffer (omega (arith, sectors-are)) (v ∙ sym size-is) in
+      let p = replay-claim .opened a work exhibitLog small small-work (log-small exhibitRecords) e .1 in
+      let r = p .sectors 7 buffer (omega (arith, sectors-are)) (v ∙ sym size-is) in
       let c = subst (SectorReads (f .size) _ (readOf (end .arena) (end .handle) 7 buffer)) written-is r in
       let q : k + (1 + k) ≡ 2 * k + 1 = omega arith in
       c .words k (rw size-is (omega arith)) ∙ ap (λ (n : ℕ). k + n) (rising-at 1 132 k (omega arith)) ∙ q

@@ -129,7 +129,9 @@ module _ (row₀ : Row) (w : List ℕ) where
       row-zero = rw (le-ltb (length w) (f .blocks) (c .room))
 
       open-work : o .work ≡ w
-      open-work = ap (λ (y : Reply). y .buffer) (event-reply alone told-alone row (stateOf x) (d .rep) (opened w)) ∙ unfold rowReplyEvent in (rw row-zero (c .same))
+      open-work =
+          ap (λ (y : Reply). y .buffer) (event-reply alone told-alone row (stateOf x) (d .rep) (opened w))
+          ∙ unfold rowReplyEvent in (rw row-zero (c .same))
 
       open-state : stateOf (openedPoint o) ≡ afterEvent alone (stateOf x) (opened w)
       open-state = rw open-zero (ap (λ (h : Handle). record { arena = o .arena; handle = h }) (packing-claim .opened (x .arena) w open-zero))

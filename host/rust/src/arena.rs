@@ -154,8 +154,8 @@ impl<'a> Arena<'a> {
         Ok(mended)
     }
 
-    /// Makes the next store of the lane's write, one aligned word. After [`Handle::steps`] steps the write is done and the lane idle;
-    /// every step of a write is lent the same sector buffer.
+    /// Makes the next store of the lane's write, one aligned word. After [`Handle::steps`] steps the write is done and the lane idle.
+    /// Lend every step of a write the same sector buffer: a step stores the one word of it whose turn it is.
     ///
     /// Answers [`BadHandle`](Answer::BadHandle), [`NoSuchLane`](Answer::NoSuchLane), [`LaneIdle`](Answer::LaneIdle),
     /// [`WrongBuffer`](Answer::WrongBuffer), the first that applies.

@@ -53,11 +53,13 @@ same-length-7 c = search needs
 
 returns-3 : tie.Need-returns-3
 returns-3 c =
-    let s = c .before .before .before .before .before .before .before .before .before .before .before .before .before .before .before .before .before .before .before .before .before .before .before .before .args in
-    let o = c .before .before .before .before .before .before .before .before .before .before .before .before .before .before .before .before .before .«open» in
+    let k = c .before .before .before .before .before .before .before .before .before .before in
+    let d = k .before .before in
+    let s = d .before .before .before .before .before .before .before .before .before .before .before .before .args in
+    let o = d .before .before .before .before .before .«open» in
     let r = c .before .before .before .before .before .before .run-records in
     ran-all _ _ (s .log .now) (s .answers .now) (numberOf (o .result .answer)) (o .result .mended) _ _ (o .result .handle) (o .ensures)
-    (sym (c .before .before .before .before .before .before .before .before .before .before .before .before .is-done .ensures) ∙ not-false _ (c .before .before .before .before .before .before .before .before .before .before .before .if1 .left)) (c .before .before .before .before .before .before .before .before .before .before .if2 .left) (r .result) _ _ _ (r .ensures)
+    (sym (d .is-done .ensures) ∙ not-false _ (k .before .if1 .left)) (k .if2 .left) (r .result) _ _ _ (r .ensures)
 
 pub replay-spec : {M : Type 1} → statement M
 replay-spec =

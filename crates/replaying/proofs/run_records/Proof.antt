@@ -44,7 +44,8 @@ returns c =
     let t = c .before .before .take in
     let s = c .before .before .before .before .before .before .before .before .before .args in
     sym (rest-first (s .log .now) (pointAt (s .arena .now) (s .work .now) (s .handle)) (s .answers .now) ∙ l .inv .3
-    ∙ stops _ _ (t .result) (t .ensures) (c .before .before .before .loop-test .taken) _ _ _ (sym (c .before .is-refused .ensures) ∙ c .if1 .taken))
+    ∙ stops _ _ (t .result) (t .ensures) (c .before .before .before .loop-test .taken) _ _ _
+    (sym (c .before .is-refused .ensures) ∙ c .if1 .taken))
 
 cast-run-record : tie.Need-cast-run-record Inv-loop μ-loop
 cast-run-record c = search needs
@@ -60,22 +61,25 @@ add-index c = search needs
 
 loop-less : tie.Need-loop-less Inv-loop μ-loop
 loop-less c =
-    let t = c .before .before .before .before .before .before .before .before .before .before .before .before .before .before .take in
-    let f = sym (c .before .before .before .before .before .before .before .before .before .before .before .before .before .is-refused .ensures) ∙ c .before .before .before .before .before .before .before .before .before .before .before .before .if1 .left in
-    omega (arith, taken-in _ _ (t .result) (t .ensures) f, c .before .before .before .before .before .before .before .before .before .before .before .before .before .before .before .loop-test .taken)
+    let k = c .before .before .before .before .before .before .before .before .before .before .before .before in
+    let t = k .before .before .take in
+    let f = sym (k .before .is-refused .ensures) ∙ k .if1 .left in
+    omega (arith, taken-in _ _ (t .result) (t .ensures) f, k .before .before .before .loop-test .taken)
 
 loop-again : tie.Need-loop-again Inv-loop μ-loop
 loop-again c =
-    let l = c .before .before .before .before .before .before .before .before .before .before .before .before .before .before .before .before .loop in
-    let t = c .before .before .before .before .before .before .before .before .before .before .before .before .before .before .take in
-    let f = sym (c .before .before .before .before .before .before .before .before .before .before .before .before .before .is-refused .ensures) ∙ c .before .before .before .before .before .before .before .before .before .before .before .before .if1 .left in
-    let k = taken-in _ _ (t .result) (t .ensures) f in
+    let k = c .before .before .before .before .before .before .before .before .before .before .before .before in
+    let l = k .before .before .before .before .loop in
+    let t = k .before .before .take in
+    let f = sym (k .before .is-refused .ensures) ∙ k .if1 .left in
+    let u = k .before .before .before .loop-test .taken in
+    let in-log = taken-in _ _ (t .result) (t .ensures) f in
     let r = c .before .before .before .before .before .before .before .before .before .run-record .ensures in
     let a = c .before .before .before .put-answer .ensures in (
-      omega (arith, k, l .inv .0),
-      k .1,
+      omega (arith, in-log, l .inv .0),
+      in-log .1,
       l .inv .2,
-      l .inv .3 ∙ turns _ _ (t .result) (t .ensures) (c .before .before .before .before .before .before .before .before .before .before .before .before .before .before .before .loop-test .taken) _ _ _ f _ (r .0) _ (r .1) _ a,
+      l .inv .3 ∙ turns _ _ (t .result) (t .ensures) u _ _ _ f _ (r .0) _ (r .1) _ a,
       c .before .before .before .before .before .before .before .before .arena .given ∙ l .inv .4,
       c .before .before .before .before .before .before .work .given ∙ l .inv .5,
       c .before .before .answers .given ∙ l .inv .6,

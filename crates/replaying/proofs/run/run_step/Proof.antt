@@ -20,7 +20,9 @@ array-share-prefix-buffer : tie.Need-array-share-prefix-buffer
 array-share-prefix-buffer c = omega (arith, c .before .if1 .taken, words-length _ _ (c .before .before .before .before .fill-words .ensures))
 
 slice-aggregate-step : tie.Need-slice-aggregate-step
-slice-aggregate-step c = let l = words-length _ _ (c .before .before .before .before .before .fill-words .ensures) in sym (length-take-le _ _ (omega (arith, c .before .before .if1 .taken, l)))
+slice-aggregate-step c =
+    let l = words-length _ _ (c .before .before .before .before .before .fill-words .ensures) in
+    sym (length-take-le _ _ (omega (arith, c .before .before .if1 .taken, l)))
 
 step-requires : tie.Need-step-requires
 step-requires c κs = search needs
