@@ -1,6 +1,7 @@
 // The records of a run log: which one stands at an offset, and where it ends.
 use format::numbers::LaneNo;
 use format::numbers::SectorNo;
+use words::wide;
 ghost use mathlib.Core.Path.{_≡_};
 ghost use Prim.Native.Nat.{_+_, _≤_, _<_};
 ghost use lib.ListN.{length};
@@ -40,13 +41,6 @@ impl Record {
 pub struct Taken {
     pub found: Record,
     pub after: usize,
-}
-
-// A byte as a u32.
-fn wide(x: u8) -> u32
-    ensures { λ r. ⌜ (r ≡ x) × (r < 256) ⌝ }
-{
-    x as u32
 }
 
 // The 16-bit number at an offset.
