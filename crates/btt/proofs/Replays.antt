@@ -83,6 +83,7 @@ records-ran a work log answers small small-work small-log e =
           let s = p .stops (ap (λ (y : Log). y .stopped) l) in
           (rw (q .0, s .0), s .1 ∙ ap (λ (y : Log). y .at) l, p .count ∙ ap (λ (y : Log). length (y .records)) l);
       records = p .count;
+      few = omega (arith, p .count, log-claim .few log);
       size = put-size ns answers;
       answered = λ i u v. put-in ns answers i u v ∙ ap (λ (ms : List ℕ). getD ms i 0) (p .answers);
       unused = λ i u. put-past ns answers i u;

@@ -2,15 +2,14 @@
 use mathlib.Core.Path.{_≡_}
 use mathlib.Core.Logic.{_≢_}
 use mathlib.Core.Bool.{true, false}
-use mathlib.Core.List.{List, map}
+use mathlib.Core.List.{List}
 use Prim.Native.Nat.{ℕ, _≤_, _<_}
 use lib.ListN.{length, getD}
 use Rattle.words.specs.Bytes.{Small}
 use Rattle.layout.specs.Told.{alone}
 use Rattle.machine.specs.calls.Opening.{openOf}
-use Rattle.machine.specs.calls.History.{Reply, replyEvents}
 use Rattle.runlog.specs.Log.{logOf}
-use Rattle.replaying.specs.Claims.{first, events, last}
+use Rattle.replaying.specs.Claims.{last, replies}
 use Rattle.btt.specs.Replay.{HostReplay, bttReplayOf}
 
 -- the first opening is refused: no record runs, and the work buffer is as the opening leaves it
@@ -22,10 +21,6 @@ pub record NothingRan (a room buffer : List ℕ) (r : HostReplay) : Type 0 where
   pub work : r .work ≡ (openOf alone a room) .work
   pub answers : r .answers ≡ buffer
 
--- what the records answer, as calls and openings after the first
-abbrev pub repliesOf : List ℕ → List ℕ → List ℕ → List ℕ
-repliesOf a work log = map (λ (r : Reply). r .number) (replyEvents alone (first a work log) (events a work log))
-
 -- the first opening is accepted
 pub record RecordsRan (a room log buffer : List ℕ) (r : HostReplay) : Type 0 where
   -- 0 where the log is its records and nothing else; 20, and the offset, where a record is refused, and of a longer log none runs
@@ -34,8 +29,9 @@ pub record RecordsRan (a room log buffer : List ℕ) (r : HostReplay) : Type 0 w
   pub longer : 8192 < length log → (r .number ≡ 20) × (r .stopped ≡ 0) × (r .records ≡ 0)
   -- every record before that ran, and its answer is in the buffer if it fits; the other bytes are as they came
   pub records : r .records ≡ length ((logOf log) .records)
+  pub few : r .records ≤ 2048
   pub size : length (r .answers) ≡ length buffer
-  pub answered : (i : ℕ) → i < r .records → i < length buffer → getD (r .answers) i 0 ≡ getD (repliesOf a room log) i 0
+  pub answered : (i : ℕ) → i < r .records → i < length buffer → getD (r .answers) i 0 ≡ getD (replies a room log) i 0
   pub unused : (i : ℕ) → r .records ≤ i → getD (r .answers) i 0 ≡ getD buffer i 0
   -- the arena is the history's, the work buffer the first opening's
   pub arena : r .arena ≡ (last a room log) .arena

@@ -1,4 +1,4 @@
 pub mod Bounds
 pub mod Laws
-pub mod Limit
 pub mod Suffices
+pub mod Transcripts

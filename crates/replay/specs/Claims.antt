@@ -1,22 +1,31 @@
--- What is written, by the length of the arena in bytes; and the program's work buffer is always long enough.
+-- What is written, by the arena's length, its opening and the log's records; and the program's work buffer is always long enough.
 use mathlib.Core.Path.{_≡_}
 use mathlib.Core.Logic.{_≢_}
-use mathlib.Core.List.{List}
+use mathlib.Core.Bool.{false}
+use mathlib.Core.List.{List, [], _∷_}
 use Prim.Native.Nat.{ℕ, _≤_, _<_}
 use lib.ListN.{length}
+use Rattle.words.specs.Bytes.{Small}
 use Rattle.layout.specs.Told.{alone}
 use Rattle.machine.specs.calls.Opening.{openOf}
-use Rattle.text.specs.Text.{refusedText}
-use Rattle.replaying.specs.Replay.{replayOf}
-use Rattle.replay.specs.Transcript.{maxArena, textOf, workBuffer, transcriptOf}
+use Rattle.runlog.specs.Log.{logOf}
+use Rattle.replaying.specs.Claims.{last, replies}
+use Rattle.text.specs.Replay.{replayText}
+use Rattle.replay.specs.Transcript.{workBuffer, transcriptOf}
 
 -- it suffices for every arena that is opened, at the first opening and, with any bytes in it, at a cut: 5 is never written
-pub record WorkSuffices : Type 0 where
-  pub first : (a log : List ℕ) → length a ≤ maxArena → (replayOf a workBuffer log) .first ≢ 5
-  pub cut : (a work : List ℕ) → length a ≤ maxArena → length work ≡ length workBuffer → (openOf alone a work) .number ≢ 5
+abbrev pub WorkSuffices : Type 0
+WorkSuffices = (a work : List ℕ) → length a ≤ 49152 → length work ≡ length workBuffer → (openOf alone a work) .number ≢ 5
 
--- more than 49,152 bytes are `refused 1`, and the arena is as it was; any others are replayed
-pub record LimitClaim : Type 0 where
-  pub longer : (a log : List ℕ) → 49152 < length a → transcriptOf a log ≡ record { text = refusedText 1; arena = a }
-  pub replayed : (a log : List ℕ) → length a ≤ 49152
-      → transcriptOf a log ≡ record { text = textOf (replayOf a workBuffer log); arena = (replayOf a workBuffer log) .arena }
+pub record TranscriptClaim : Type 0 where
+  -- more than 49,152 bytes are "refused 1", and the arena is as it was
+  pub longer : (a log : List ℕ) → 49152 < length a
+      → transcriptOf a log ≡ record { text = 114 ∷ 101 ∷ 102 ∷ 117 ∷ 115 ∷ 101 ∷ 100 ∷ 32 ∷ 49 ∷ 10 ∷ []; arena = a }
+  -- one that does not open is refused with the opening's number, and is as it was
+  pub refused : (a log : List ℕ) → length a ≤ 49152 → (openOf alone a workBuffer) .number ≢ 0
+      → transcriptOf a log ≡ record { text = replayText ((openOf alone a workBuffer) .number) [] false 0; arena = a }
+  -- of any other, what each record answers as a call or an opening after the first, and where the log is refused, if it is; the arena is as
+  -- these calls and openings leave it
+  pub replayed : (a log : List ℕ) → length a ≤ 49152 → Small a → Small log → (openOf alone a workBuffer) .number ≡ 0
+      → transcriptOf a log
+      ≡ record { text = replayText 0 (replies a workBuffer log) ((logOf log) .stopped) ((logOf log) .at); arena = (last a workBuffer log) .arena }

@@ -1,12 +1,12 @@
 // The claims about the transcript, each the contract of a function that does nothing.
-ghost use Rattle.replay.specs.Claims.{LimitClaim, WorkSuffices};
+ghost use Rattle.replay.specs.Claims.{TranscriptClaim, WorkSuffices};
 
 // No opening is refused with 5.
 pub fn work_suffices()
     ensures work_suffices { λ _. ⌜ WorkSuffices ⌝ }
 {}
 
-// An arena is refused by its length alone, or replayed.
-pub fn limit()
-    ensures limit { λ _. ⌜ LimitClaim ⌝ }
+// What is written of an arena that is too long, of one that does not open, and of a replay.
+pub fn transcripts()
+    ensures transcripts { λ _. ⌜ TranscriptClaim ⌝ }
 {}

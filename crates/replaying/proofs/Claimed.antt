@@ -33,8 +33,7 @@ use Rattle.machine.proofs.row.Answers.{read-is}
 use Rattle.machine.proofs.row.Reads.{readBy, read-holds}
 use Rattle.machine.proofs.row.Events.{RepIn, accepted, event-rep}
 use Rattle.machine.proofs.row.Follows.{first-rep}
-use Rattle.runlog.specs.Record.{lengthOf, refuses, recordAt}
-use Rattle.runlog.specs.Log.{maxLog, logOf, upTo}
+use Rattle.runlog.specs.Log.{maxLog, logOf}
 use Rattle.runlog.specs.Claims.{AllFit}
 use Rattle.runlog.specs.declared.record.Record.{Record}
 use Rattle.runlog.proofs.Logs.{log-claim}
@@ -46,19 +45,8 @@ use Rattle.replaying.proofs.Follows.{stateOf, Cleared, Sized, Followed,
 
 -- ---- the records of a log
 
-few-records : (n : ℕ) (log : List ℕ) (at : ℕ) → length ((upTo n log at) .records) ≤ n
-unfolding upTo
-few-records zero log at = omega arith
-few-records (suc n) log at = by-bool (leb (length log) at) _
-    (λ t. rw t (omega arith))
-    (λ t. rw t (by-bool (refuses (recordAt log at)) _
-    (λ e. rw e (omega arith))
-    (λ e. rw e (omega (arith, few-records n log (at + lengthOf (recordAt log at)))))))
-
 count-records : (log : List ℕ) → 0 + length ((logOf log) .records) ≤ 8193
-unfolding logOf
-count-records log = by-bool (leb (length log) maxLog) _
-    (λ t. rw t (omega (arith, leb-true (length log) maxLog t, few-records (suc (length log - 0)) log 0))) (λ t. rw t (omega arith))
+count-records log = omega (arith, log-claim .few log)
 
 fit-records : (log : List ℕ) → Small log → AllFit ((logOf log) .records)
 fit-records log small = by-bool (leb (length log) maxLog) _
@@ -66,7 +54,7 @@ fit-records log small = by-bool (leb (length log) maxLog) _
     (λ t. rw (log-claim .longer log (leb-false _ _ t)) (unfold AllFit in tt))
 
 -- an answer for each record
-answers-length : (i : ℕ) (x : Point) (rs : List Record) → length (answersAll i x rs) ≡ length rs
+pub answers-length : (i : ℕ) (x : Point) (rs : List Record) → length (answersAll i x rs) ≡ length rs
 unfolding answersAll
 answers-length i x [] = refl
 answers-length i x (r ∷ rs) = ap suc (answers-length (suc i) (ran i x r) rs)

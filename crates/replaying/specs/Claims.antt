@@ -90,6 +90,10 @@ module _ (a work log : List ℕ) where
   abbrev pub last : State
   last = runEvents alone first events
 
+  -- what the records answer, as calls and openings after the first
+  abbrev pub replies : List ℕ
+  replies = map (λ (r : Reply). r .number) (replyEvents alone first events)
+
   abbrev pub stores : ℕ
   stores = first .handle .figures .size / 4 + 5
 
@@ -102,7 +106,7 @@ module _ (a work log : List ℕ) where
     pub whole : (logOf log) .stopped ≡ false → ((replayOf a work log) .stopped ≡ false) × ((replayOf a work log) .at ≡ 0)
     pub stops : (logOf log) .stopped ≡ true → ((replayOf a work log) .stopped ≡ true) × ((replayOf a work log) .at ≡ (logOf log) .at)
     -- the replay answers and leaves what its records do as a history of calls and openings
-    pub answers : numbers ≡ map (λ (r : Reply). r .number) (replyEvents alone first events)
+    pub answers : numbers ≡ replies
     pub arena : (replayOf a work log) .arena ≡ last .arena
     pub buffer : (replayOf a work log) .work ≡ cleared
     pub cuts : CutsOpen ranRecords numbers

@@ -3,19 +3,19 @@ use mathlib.Core.Path.{_≡_, refl, sym, ap, subst, _∙_}
 use mathlib.Core.Logic.{_≢_, _⊎_, inl, inr}
 use mathlib.Core.Bool.{true, false}
 use mathlib.Core.List.{List, [], _∷_, _++_, append-nil, append-assoc}
-use Prim.Native.Nat.{ℕ, zero, suc, _+_, _-_, _≤_, _<_}
+use Prim.Native.Nat.{ℕ, zero, suc, _+_, _-_, _*_, _≤_, _<_}
 use native.Mathlib.Omega.{arith}
 use native.Mathlib.Nat.{zero-add}
 use lib.Dec.{leb}
 use borrow.Author.Tests.{le-leb, lt-leb, leb-true, leb-false}
-use lib.ListN.{length, getD, take, drop, length-append, length-drop, drop-of-length-le, take-append-drop}
+use lib.ListN.{length, getD, take, drop, length-append, length-take, length-drop, drop-of-length-le, take-append-drop}
 use lib.Seq.{take-append-seam, drop-append-seam, drop-drop, getD-append-add}
 use Rattle.words.specs.Bytes.{Small}
 use Rattle.format.proofs.Tests.{by-bool, true-false}
 use Rattle.runlog.specs.declared.record.Record.{Record}
 use Rattle.runlog.specs.declared.record.Record.the-variants.{Start, Step, Cut, Refused}
 use Rattle.runlog.specs.Record.{lengthOf, refuses, recordAt}
-use Rattle.runlog.specs.Log.{Log, stoppedAt, after, logFrom, logOf}
+use Rattle.runlog.specs.Log.{Log, stoppedAt, after, upTo, logFrom, maxLog, logOf}
 use Rattle.runlog.specs.Claims.{bytesOf, Fits, RecordClaim, allBytes, AllFit, BeginsNone, LogClaim}
 use Rattle.runlog.proofs.Laws.{record-in, log-end, log-stop, log-more}
 use Rattle.runlog.proofs.Bytes.{found-at, stands-at}
@@ -117,8 +117,46 @@ log-every : (log : List ℕ) → Small log → length log ≤ 8192 → Parts log
 unfolding logOf
 log-every log small h = rw (le-leb (length log) 8192 h) (every-from (suc (length log)) log 0 small (omega arith))
 
+-- the records from an offset on have four bytes each before the offset where they end
+abbrev Within : List ℕ → ℕ → Log → Type 0
+Within log at l = (at + 4 * length (l .records) ≤ l .at) × (l .at ≤ length log)
+
+within : (n : ℕ) (log : List ℕ) (at : ℕ) → at ≤ length log → Within log at (upTo n log at)
+unfolding upTo
+within zero log at h = (omega arith, h)
+within (suc n) log at h =
+    by-bool (leb (length log) at) _ (λ t. rw t (omega arith, h))
+    (λ t. by-bool (refuses (recordAt log at)) _ (λ e. rw (t, e) (omega arith, h))
+    (λ e. let in-log = record-in log at e in
+    let rest = within n log (at + lengthOf (recordAt log at)) (in-log .0) in
+    rw (t, e) (omega (arith, in-log .1, rest .0), rest .1)))
+
+few : (log : List ℕ) (l : Log) → Within log 0 l → length log ≤ 8192 → (length (l .records) ≤ 2048) × (l .at ≤ 8192)
+few log l w h = (omega (arith, w .0, w .1), omega (arith, w .1))
+
+-- how many records run, and where they end
+pub log-within : (log : List ℕ) → (length ((logOf log) .records) ≤ 2048) × ((logOf log) .at ≤ 8192)
+unfolding logOf
+log-within log =
+    by-bool (leb (length log) maxLog) _
+    (λ t. rw t (few log (logFrom log 0) (within (suc (length log - 0)) log 0 (omega arith)) (leb-true (length log) maxLog t)))
+    (λ t. rw t (omega arith, omega arith))
+
+-- two bytes are too few for a record
+two-begin-none : BeginsNone (6 ∷ 0 ∷ [])
+two-begin-none r f s = let ok = fits-runs r f in omega (arith, ap length s, length-take {A = ℕ} (length (bytesOf r)) (6 ∷ 0 ∷ []))
+
 pub record-claim : RecordClaim
 record-claim = record { found = found-at; stands = λ log at small. stands-at log at (λ j. small (at + j)) }
 
 pub log-claim : LogClaim
-log-claim = record { whole = log-whole; damaged = log-damaged; every = log-every; longer = log-longer }
+unfolding recordAt upTo logOf
+log-claim = record {
+  whole = log-whole;
+  damaged = log-damaged;
+  every = log-every;
+  longer = log-longer;
+  few = λ log. log-within log .0;
+  example = refl;
+  begins-none = two-begin-none;
+}

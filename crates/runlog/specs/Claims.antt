@@ -67,3 +67,9 @@ pub record LogClaim : Type 0 where
       × ((drop ((logOf log) .at) log ≡ []) ⊎ BeginsNone (drop ((logOf log) .at) log))
   -- a longer log is refused at 0, and no record of it runs
   pub longer : (log : List ℕ) → 8192 < length log → logOf log ≡ record { records = []; stopped = true; at = 0 }
+  -- a record has four bytes or more, so at most 2,048 run
+  pub few : (log : List ℕ) → length ((logOf log) .records) ≤ 2048
+  -- a log that meets the premises: a start on lane 259 to sector 16,909,060, a step on that lane, a cut, and two bytes that begin no record
+  pub example : logOf (10 ∷ 0 ∷ 1 ∷ 0 ∷ 3 ∷ 1 ∷ 4 ∷ 3 ∷ 2 ∷ 1 ∷ 6 ∷ 0 ∷ 2 ∷ 0 ∷ 3 ∷ 1 ∷ 4 ∷ 0 ∷ 3 ∷ 0 ∷ 6 ∷ 0 ∷ [])
+      ≡ record { records = Start (record { 0 = 259 }) (record { 0 = 16909060 }) ∷ Step (record { 0 = 259 }) ∷ Cut ∷ []; stopped = true; at = 20 }
+  pub begins-none : BeginsNone (6 ∷ 0 ∷ [])

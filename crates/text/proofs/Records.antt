@@ -1,5 +1,5 @@
 -- Laws of a replay's text: a record's line and the whole text as their pieces are put, and the lines of the records one by one.
-use mathlib.Core.Path.{_≡_, sym, ap, _∙_}
+use mathlib.Core.Path.{_≡_, refl, sym, ap, _∙_}
 use mathlib.Core.Logic.{_≢_}
 use mathlib.Core.Bool.{Bool, true, false}
 use mathlib.Core.List.{List, [], _∷_, _++_, append-assoc, append-nil}
@@ -12,8 +12,9 @@ use lib.Seq.{take-suc, length-take-le}
 use borrow.Author.Tests.{eq-eqb, ne-eqb}
 use Rattle.text.specs.Put.{Put}
 use Rattle.text.specs.Text as texts
-use Rattle.text.specs.Text.{decimal, newline, refusedText}
+use Rattle.text.specs.Text.{digits, decimal, newline, refusedText}
 use Rattle.text.specs.Replay.{space, ok, stopped20At, recordText, recordsText, stoppedText, replayText}
+use Rattle.text.specs.Claims.{TextClaim}
 use Rattle.text.proofs.Laws.{put-none, put-append, refused-pieces}
 
 -- a record's line as its pieces are put
@@ -58,3 +59,22 @@ module _ (first : ℕ) (numbers : List ℕ) (stopped : Bool) (at : ℕ) where
   pub replay-ended : first ≡ 0 → stopped ≡ false → recordsText 0 numbers ≡ replayText first numbers stopped at
   unfolding replayText
   replay-ended e t = rw (eq-eqb first 0 e, t, append-nil)
+
+-- a line more
+text-more : (numbers : List ℕ) (r at : ℕ)
+    → replayText 0 (numbers ++ (r ∷ [])) false at ≡ replayText 0 numbers false at ++ recordText (length numbers) r
+text-more numbers r at =
+    sym (replay-ended 0 (numbers ++ (r ∷ [])) false at refl refl)
+    ∙ records-append 0 numbers r
+    ∙ rw (replay-ended 0 numbers false at refl refl, zero-add (length numbers))
+
+pub text-claim : TextClaim
+unfolding replayText recordText stoppedText refusedText
+text-claim = record {
+  refused = λ first numbers stopped at h. rw (ne-eqb first 0 h);
+  empty = λ at. unfold recordsText in refl;
+  accepted = λ numbers at. text-more numbers 0 at;
+  answered = λ numbers r at h. text-more numbers r at ∙ rw (ne-eqb r 0 h);
+  stopped = λ numbers at. rw (append-nil (recordsText 0 numbers));
+  whole = unfold digits recordsText in refl;
+}

@@ -1,22 +1,51 @@
--- The text of a replay said a second time: whole texts, character by character.
+-- The text of a replay said a second time, line by line and character by character, and what a number's digits stand for.
 use mathlib.Core.Path.{_≡_}
-use mathlib.Core.Bool.{true, false}
-use mathlib.Core.List.{[], _∷_, _++_}
+use mathlib.Core.Logic.{_≢_}
+use mathlib.Core.Bool.{Bool, true, false}
+use mathlib.Core.List.{List, [], _∷_, _++_}
+use Prim.Native.Nat.{ℕ, _+_, _-_, _*_, _≤_, _<_}
+use lib.ListN.{length, getD}
+use Rattle.text.specs.Text.{decimal}
 use Rattle.text.specs.Replay.{replayText}
 
+-- the number that digits stand for, the highest first, after digits that stand for n
+unfoldable pub valueFrom : ℕ → List ℕ → ℕ
+valueFrom n [] = n
+valueFrom n (c ∷ cs) = valueFrom (10 * n + (c - 48)) cs
+
+-- characters "0" to "9" alone
+unfoldable pub AllDigits : List ℕ → Type 0
+AllDigits [] = Unit {0}
+AllDigits (c ∷ cs) = (48 ≤ c) × (c ≤ 57) × AllDigits cs
+
+-- a number of 32 bits in decimal: digits that stand for it, the first of them not "0", but for 0 itself
+pub record DecimalClaim : Type 0 where
+  pub zero : decimal 0 ≡ 48 ∷ []
+  pub digits : (n : ℕ) → AllDigits (decimal n)
+  pub value : (n : ℕ) → n < 4294967296 → valueFrom 0 (decimal n) ≡ n
+  pub first : (n : ℕ) → 0 < n → n < 4294967296 → 49 ≤ getD (decimal n) 0 0
+
 pub record TextClaim : Type 0 where
-  -- "0 ok", "1 refused 12", "stopped 20 at 16", each on a line
-  pub stopped : replayText 0 (0 ∷ 12 ∷ []) true 16
+  -- a refused first opening: "refused R" on a line, whatever else there is
+  pub refused : (first : ℕ) (numbers : List ℕ) (stopped : Bool) (at : ℕ) → first ≢ 0
+      → replayText first numbers stopped at ≡ (114 ∷ 101 ∷ 102 ∷ 117 ∷ 115 ∷ 101 ∷ 100 ∷ 32 ∷ []) ++ (decimal first ++ (10 ∷ []))
+  -- no record, no line
+  pub empty : (at : ℕ) → replayText 0 [] false at ≡ []
+  -- a record more that was accepted: "N ok" on a line more, N being how many were before it
+  pub accepted : (numbers : List ℕ) (at : ℕ)
+      → replayText 0 (numbers ++ (0 ∷ [])) false at ≡ replayText 0 numbers false at ++ (decimal (length numbers) ++ (32 ∷ 111 ∷ 107 ∷ 10 ∷ []))
+  -- one more that was refused: "N refused R"
+  pub answered : (numbers : List ℕ) (r at : ℕ) → r ≢ 0
+      → replayText 0 (numbers ++ (r ∷ [])) false at
+      ≡ replayText 0 numbers false at
+      ++ (decimal (length numbers) ++ ((32 ∷ 114 ∷ 101 ∷ 102 ∷ 117 ∷ 115 ∷ 101 ∷ 100 ∷ 32 ∷ []) ++ (decimal r ++ (10 ∷ []))))
+  -- where it stopped: "stopped 20 at B" after the records' lines
+  pub stopped : (numbers : List ℕ) (at : ℕ)
+      → replayText 0 numbers true at
+      ≡ replayText 0 numbers false at
+      ++ ((115 ∷ 116 ∷ 111 ∷ 112 ∷ 112 ∷ 101 ∷ 100 ∷ 32 ∷ 50 ∷ 48 ∷ 32 ∷ 97 ∷ 116 ∷ 32 ∷ []) ++ (decimal at ++ (10 ∷ [])))
+  -- a whole text: "0 ok", "1 refused 12", "stopped 20 at 16"
+  pub whole : replayText 0 (0 ∷ 12 ∷ []) true 16
       ≡ (48 ∷ 32 ∷ 111 ∷ 107 ∷ 10 ∷ [])
       ++ ((49 ∷ 32 ∷ 114 ∷ 101 ∷ 102 ∷ 117 ∷ 115 ∷ 101 ∷ 100 ∷ 32 ∷ 49 ∷ 50 ∷ 10 ∷ [])
       ++ (115 ∷ 116 ∷ 111 ∷ 112 ∷ 112 ∷ 101 ∷ 100 ∷ 32 ∷ 50 ∷ 48 ∷ 32 ∷ 97 ∷ 116 ∷ 32 ∷ 49 ∷ 54 ∷ 10 ∷ []))
-  -- "0 refused 14", "1 ok"
-  pub ended : replayText 0 (14 ∷ 0 ∷ []) false 0
-      ≡ (48 ∷ 32 ∷ 114 ∷ 101 ∷ 102 ∷ 117 ∷ 115 ∷ 101 ∷ 100 ∷ 32 ∷ 49 ∷ 52 ∷ 10 ∷ []) ++ (49 ∷ 32 ∷ 111 ∷ 107 ∷ 10 ∷ [])
-  -- nothing at all
-  pub empty : replayText 0 [] false 0 ≡ []
-  -- "stopped 20 at 0"
-  pub too-long : replayText 0 [] true 0
-      ≡ 115 ∷ 116 ∷ 111 ∷ 112 ∷ 112 ∷ 101 ∷ 100 ∷ 32 ∷ 50 ∷ 48 ∷ 32 ∷ 97 ∷ 116 ∷ 32 ∷ 48 ∷ 10 ∷ []
-  -- "refused 3", whatever else there is
-  pub refused : replayText 3 (0 ∷ []) true 4 ≡ 114 ∷ 101 ∷ 102 ∷ 117 ∷ 115 ∷ 101 ∷ 100 ∷ 32 ∷ 51 ∷ 10 ∷ []

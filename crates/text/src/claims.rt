@@ -1,7 +1,12 @@
-// The claim about the text of a replay, as the contract of a function that does nothing.
-ghost use Rattle.text.specs.Claims.{TextClaim};
+// The claims about texts, each the contract of a function that does nothing.
+ghost use Rattle.text.specs.Claims.{DecimalClaim, TextClaim};
 
-// Whole texts of replays, character by character.
+// What a number's digits stand for.
+pub fn decimals()
+    ensures decimals { λ _. ⌜ DecimalClaim ⌝ }
+{}
+
+// The text of a replay, line by line.
 pub fn replay_texts()
     ensures replay_texts { λ _. ⌜ TextClaim ⌝ }
 {}
