@@ -14,11 +14,24 @@ use Rattle.words.specs.Bytes.{Small}
 use Rattle.format.proofs.Tests.{by-bool, true-false}
 use Rattle.runlog.specs.declared.record.Record.{Record}
 use Rattle.runlog.specs.declared.record.Record.the-variants.{Start, Step, Cut, Refused}
-use Rattle.runlog.specs.Record.{lengthOf, refuses, recordAt}
+use Rattle.runlog.specs.Record.{kindOf, lengthOf, refuses, recordAt}
 use Rattle.runlog.specs.Log.{Log, stoppedAt, after, upTo, logFrom, maxLog, logOf}
-use Rattle.runlog.specs.Claims.{bytesOf, Fits, RecordClaim, allBytes, AllFit, BeginsNone, LogClaim}
+use Rattle.runlog.specs.Claims.{twoBytes, bytesOf, Fits, RecordClaim, allBytes, AllFit, BeginsNone, LogClaim}
 use Rattle.runlog.proofs.Laws.{record-in, log-end, log-stop, log-more}
 use Rattle.runlog.proofs.Bytes.{found-at, stands-at}
+
+-- a record has as many bytes as its length says, and they begin with its length and its kind
+sizes : (r : Record) → lengthOf r ≡ length (bytesOf r)
+sizes (Start lane sector) = refl
+sizes (Step lane) = refl
+sizes Cut = refl
+sizes Refused = refl
+
+heads : (r : Record) → Fits r → take 4 (bytesOf r) ≡ twoBytes (length (bytesOf r)) ++ twoBytes (kindOf r)
+heads (Start lane sector) f = refl
+heads (Step lane) f = refl
+heads Cut f = refl
+heads Refused f = absurd f
 
 -- a record that fits is none that is refused, and has as many bytes as its length says
 fits-runs : (r : Record) → Fits r → (refuses r ≡ false) × (length (bytesOf r) ≡ lengthOf r) × (4 ≤ lengthOf r)
@@ -55,7 +68,7 @@ log-whole : (rs : List Record) → AllFit rs → length (allBytes rs) ≤ 8192
 unfolding logOf
 log-whole rs f h =
     let log = allBytes rs in
-    rw (le-leb (length log) 8192 h)
+    rw (le-leb (length log) maxLog (omega arith))
     (run-on rs [] log 0 f (sym (append-nil log)) ∙ rw (zero-add, log-end log (length log) (omega arith), append-nil))
 
 -- no record is found where none begins
@@ -79,7 +92,7 @@ log-damaged rs rest f small some none h =
     let left = some-bytes rest some in
     let stop = log-stop log n (omega (arith, length-append (allBytes rs) rest))
     (none-begins log n (λ j. rw getD-append-add (small j)) (subst BeginsNone (sym here) none)) in
-    rw (le-leb (length log) 8192 h) (run-on rs rest log 0 f refl ∙ rw (zero-add, stop, append-nil))
+    rw (le-leb (length log) maxLog (omega arith)) (run-on rs rest log 0 f refl ∙ rw (zero-add, stop, append-nil))
 
 -- what a log is from an offset on: the bytes of its records, and then nothing or bytes that begin no record
 abbrev Parts : List ℕ → ℕ → Log → Type 0
@@ -111,11 +124,11 @@ every-from (suc n) log at small h =
 
 log-longer : (log : List ℕ) → 8192 < length log → logOf log ≡ stoppedAt 0
 unfolding logOf
-log-longer log h = rw (lt-leb (length log) 8192 h)
+log-longer log h = rw (lt-leb (length log) maxLog (omega arith))
 
 log-every : (log : List ℕ) → Small log → length log ≤ 8192 → Parts log 0 (logOf log)
 unfolding logOf
-log-every log small h = rw (le-leb (length log) 8192 h) (every-from (suc (length log)) log 0 small (omega arith))
+log-every log small h = rw (le-leb (length log) maxLog (omega arith)) (every-from (suc (length log)) log 0 small (omega arith))
 
 -- the records from an offset on have four bytes each before the offset where they end
 abbrev Within : List ℕ → ℕ → Log → Type 0
@@ -147,7 +160,12 @@ two-begin-none : BeginsNone (6 ∷ 0 ∷ [])
 two-begin-none r f s = let ok = fits-runs r f in omega (arith, ap length s, length-take {A = ℕ} (length (bytesOf r)) (6 ∷ 0 ∷ []))
 
 pub record-claim : RecordClaim
-record-claim = record { found = found-at; stands = λ log at small. stands-at log at (λ j. small (at + j)) }
+record-claim = record {
+  found = found-at;
+  stands = λ log at small. stands-at log at (λ j. small (at + j));
+  head = heads;
+  taken = λ log at. ap (λ (n : ℕ). record { found = recordAt log at; after = at + n }) (sizes (recordAt log at));
+}
 
 pub log-claim : LogClaim
 unfolding recordAt upTo logOf

@@ -3,12 +3,12 @@ use mathlib.Core.Path.{_≡_}
 use mathlib.Core.Logic.{_≢_, _⊎_}
 use mathlib.Core.Bool.{true, false}
 use mathlib.Core.List.{List, [], _∷_, _++_}
-use Prim.Native.Nat.{ℕ, _/_, _%_, _≤_, _<_}
+use Prim.Native.Nat.{ℕ, _+_, _/_, _%_, _≤_, _<_}
 use lib.ListN.{length, take, drop}
 use Rattle.words.specs.Bytes.{Small}
 use Rattle.runlog.specs.declared.record.Record.{Record}
 use Rattle.runlog.specs.declared.record.Record.the-variants.{Start, Step, Cut, Refused}
-use Rattle.runlog.specs.Record.{recordAt}
+use Rattle.runlog.specs.Record.{kindOf, recordAt, takenAt}
 use Rattle.runlog.specs.Log.{logOf}
 
 -- a number in two bytes and in four, the least first
@@ -40,6 +40,10 @@ pub record RecordClaim : Type 0 where
   -- a record is found where its bytes stand, and nothing else is found than what stands there
   pub found : (log : List ℕ) (at : ℕ) (r : Record) → Fits r → StandsAt log at r → recordAt log at ≡ r
   pub stands : (log : List ℕ) (at : ℕ) → Small log → recordAt log at ≢ Refused → Fits (recordAt log at) × StandsAt log at (recordAt log at)
+  -- a record begins with its length and its kind
+  pub head : (r : Record) → Fits r → take 4 (bytesOf r) ≡ twoBytes (length (bytesOf r)) ++ twoBytes (kindOf r)
+  -- it is taken, and the place after it is after its bytes; after a refusal, where it was
+  pub taken : (log : List ℕ) (at : ℕ) → takenAt log at ≡ record { found = recordAt log at; after = at + length (bytesOf (recordAt log at)) }
 
 -- the bytes of records, one after another
 unfoldable pub allBytes : List Record → List ℕ

@@ -1,11 +1,12 @@
--- The text of a replay said a second time, line by line and character by character, and what a number's digits stand for.
+-- Texts said a second time, character by character: what a number's digits stand for, a replay's lines, and document 01's report.
 use mathlib.Core.Path.{_≡_}
 use mathlib.Core.Logic.{_≢_}
 use mathlib.Core.Bool.{Bool, true, false}
 use mathlib.Core.List.{List, [], _∷_, _++_}
 use Prim.Native.Nat.{ℕ, _+_, _-_, _*_, _≤_, _<_}
 use lib.ListN.{length, getD}
-use Rattle.text.specs.Text.{decimal}
+use Rattle.machine.specs.state.Handle.{Handle, laneAt}
+use Rattle.text.specs.Text.{decimal, openedText}
 use Rattle.text.specs.Replay.{replayText}
 
 -- the number that digits stand for, the highest first, after digits that stand for n
@@ -49,3 +50,19 @@ pub record TextClaim : Type 0 where
       ≡ (48 ∷ 32 ∷ 111 ∷ 107 ∷ 10 ∷ [])
       ++ ((49 ∷ 32 ∷ 114 ∷ 101 ∷ 102 ∷ 117 ∷ 115 ∷ 101 ∷ 100 ∷ 32 ∷ 49 ∷ 50 ∷ 10 ∷ [])
       ++ (115 ∷ 116 ∷ 111 ∷ 112 ∷ 112 ∷ 101 ∷ 100 ∷ 32 ∷ 50 ∷ 48 ∷ 32 ∷ 97 ∷ 116 ∷ 32 ∷ 49 ∷ 54 ∷ 10 ∷ []))
+
+-- the report on a fresh arena of 60 sectors of 512 bytes with 4 lanes, as document 01 has it
+abbrev pub ReportClaim : Type 0
+ReportClaim =
+    (h : Handle) → h .figures .size ≡ 512 → h .figures .sectors ≡ 60 → h .figures .lanes ≡ 4
+    → ((l : ℕ) → l < 4 → ((laneAt (h .lanes) l) .block .0 ≡ 60 + l) × ((laneAt (h .lanes) l) .sequence .0 ≡ 2))
+    → openedText h 0
+    ≡ (115 ∷ 101 ∷ 99 ∷ 116 ∷ 111 ∷ 114 ∷ 32 ∷ 98 ∷ 121 ∷ 116 ∷ 101 ∷ 115 ∷ 32 ∷ 53 ∷ 49 ∷ 50 ∷ 10 ∷ [])
+    ++ ((115 ∷ 101 ∷ 99 ∷ 116 ∷ 111 ∷ 114 ∷ 115 ∷ 32 ∷ 54 ∷ 48 ∷ 10 ∷ [])
+    ++ ((108 ∷ 97 ∷ 110 ∷ 101 ∷ 115 ∷ 32 ∷ 52 ∷ 10 ∷ [])
+    ++ ((109 ∷ 101 ∷ 110 ∷ 100 ∷ 101 ∷ 100 ∷ 32 ∷ 48 ∷ 10 ∷ [])
+    ++ ((108 ∷ 97 ∷ 110 ∷ 101 ∷ 32 ∷ 48 ∷ 32 ∷ 102 ∷ 114 ∷ 101 ∷ 101 ∷ 32 ∷ 54 ∷ 48 ∷ 32 ∷ 110 ∷ 101 ∷ 120 ∷ 116 ∷ 32 ∷ 50 ∷ 10 ∷ [])
+    ++ ((108 ∷ 97 ∷ 110 ∷ 101 ∷ 32 ∷ 49 ∷ 32 ∷ 102 ∷ 114 ∷ 101 ∷ 101 ∷ 32 ∷ 54 ∷ 49 ∷ 32 ∷ 110 ∷ 101 ∷ 120 ∷ 116 ∷ 32 ∷ 50 ∷ 10 ∷ [])
+    ++ ((108 ∷ 97 ∷ 110 ∷ 101 ∷ 32 ∷ 50 ∷ 32 ∷ 102 ∷ 114 ∷ 101 ∷ 101 ∷ 32 ∷ 54 ∷ 50 ∷ 32 ∷ 110 ∷ 101 ∷ 120 ∷ 116 ∷ 32 ∷ 50 ∷ 10 ∷ [])
+    ++ ((108 ∷ 97 ∷ 110 ∷ 101 ∷ 32 ∷ 51 ∷ 32 ∷ 102 ∷ 114 ∷ 101 ∷ 101 ∷ 32 ∷ 54 ∷ 51 ∷ 32 ∷ 110 ∷ 101 ∷ 120 ∷ 116 ∷ 32 ∷ 50 ∷ 10 ∷ [])
+    ++ (111 ∷ 112 ∷ 101 ∷ 110 ∷ 101 ∷ 100 ∷ 10 ∷ []))))))))

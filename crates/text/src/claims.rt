@@ -1,5 +1,5 @@
 // The claims about texts, each the contract of a function that does nothing.
-ghost use Rattle.text.specs.Claims.{DecimalClaim, TextClaim};
+ghost use Rattle.text.specs.Claims.{DecimalClaim, TextClaim, ReportClaim};
 
 // What a number's digits stand for.
 pub fn decimals()
@@ -9,4 +9,9 @@ pub fn decimals()
 // The text of a replay, line by line.
 pub fn replay_texts()
     ensures replay_texts { λ _. ⌜ TextClaim ⌝ }
+{}
+
+// The report on document 01's fresh arena.
+pub fn report_text()
+    ensures report_text { λ _. ⌜ ReportClaim ⌝ }
 {}
