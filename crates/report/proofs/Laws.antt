@@ -17,15 +17,15 @@ use Rattle.machine.proofs.opening.Described.{told-alone, described-figures}
 use Rattle.machine.proofs.opening.Opens.{open-zero, opened-figures}
 use Rattle.arena.specs.Calls.{PackedOpening, packedOpening}
 use Rattle.text.specs.Text.{refusedText, openedText}
-use Rattle.report.specs.Report.{textOf, workBuffer, reportOf, Reported}
+use Rattle.report.specs.Report.{textOf, workBuffer, maxInput, reportOf, Reported}
 
-pub too-long : (a before after : List ℕ) (r : ℕ) → 65536 < length a → r ≡ length (refusedText 1)
+pub too-long : (a before after : List ℕ) (r : ℕ) → maxInput < length a → r ≡ length (refusedText 1)
     → after ≡ refusedText 1 ++ drop (length (refusedText 1)) before → Reported (reportOf a) r a before after
 unfolding reportOf
 too-long a before after r u e f = rw (lt-ltb _ _ u) (record { count = e; buffer = f; opened = refl })
 
 -- an opening that gave this
-module _ (a input left : List ℕ) (n count : ℕ) (p : packed.Handle) (u : length a ≤ 65536)
+module _ (a input left : List ℕ) (n count : ℕ) (p : packed.Handle) (u : length a ≤ maxInput)
     (o : record { number = n; mended = count; arena = input; handle = p; work = left }
     ≡ packedOpening (openOf alone a workBuffer)) where
   abbrev given : Opening

@@ -22,10 +22,14 @@ textOf o = cond (eqb (o .number) 0) (openedText (o .handle) (o .mended)) (refuse
 abbrev pub workBuffer : List ℕ
 workBuffer = replicate 128 0
 
--- an input of more than 65,536 bytes is refused with 1
+-- the longest input that is opened, in bytes
+abbrev pub maxInput : ℕ
+maxInput = 65536
+
+-- a longer input is refused with 1
 unfoldable pub reportOf : List ℕ → Report
 reportOf a =
-    cond (ltb 65536 (length a)) (record { text = refusedText 1; input = a })
+    cond (ltb maxInput (length a)) (record { text = refusedText 1; input = a })
     (record { text = textOf (openOf alone a workBuffer); input = (openOf alone a workBuffer) .arena })
 
 -- what a report leaves: so many bytes of text at the start of the buffer, the rest of it unchanged, and the input

@@ -52,8 +52,8 @@ pub record TextClaim : Type 0 where
       ++ (115 ∷ 116 ∷ 111 ∷ 112 ∷ 112 ∷ 101 ∷ 100 ∷ 32 ∷ 50 ∷ 48 ∷ 32 ∷ 97 ∷ 116 ∷ 32 ∷ 49 ∷ 54 ∷ 10 ∷ []))
 
 -- the report on a fresh arena of 60 sectors of 512 bytes with 4 lanes, as document 01 has it
-abbrev pub ReportClaim : Type 0
-ReportClaim =
+abbrev pub ReportTextClaim : Type 0
+ReportTextClaim =
     (h : Handle) → h .figures .size ≡ 512 → h .figures .sectors ≡ 60 → h .figures .lanes ≡ 4
     → ((l : ℕ) → l < 4 → ((laneAt (h .lanes) l) .block .0 ≡ 60 + l) × ((laneAt (h .lanes) l) .sequence .0 ≡ 2))
     → openedText h 0

@@ -1,5 +1,5 @@
 // The claims about texts, each the contract of a function that does nothing.
-ghost use Rattle.text.specs.Claims.{DecimalClaim, TextClaim, ReportClaim};
+ghost use Rattle.text.specs.Claims.{DecimalClaim, TextClaim, ReportTextClaim};
 
 // What a number's digits stand for.
 pub fn decimals()
@@ -13,5 +13,5 @@ pub fn replay_texts()
 
 // The report on document 01's fresh arena.
 pub fn report_text()
-    ensures report_text { λ _. ⌜ ReportClaim ⌝ }
+    ensures report_text { λ _. ⌜ ReportTextClaim ⌝ }
 {}

@@ -2,11 +2,11 @@
 use mathlib.Core.Path.{refl}
 use native.Mathlib.Omega.{arith}
 use Rattle.text.specs.Text.{digits, headText, laneText, lanesText, openedText}
-use Rattle.text.specs.Claims.{ReportClaim}
+use Rattle.text.specs.Claims.{ReportTextClaim}
 use Rattle.text.proofs.claims.report_text.Statement.{statement}
 use Rattle.text.proofs.claims.report_text.Tie as tie
 
-report-claim : ReportClaim
+report-claim : ReportTextClaim
 unfolding digits headText laneText lanesText openedText
 report-claim h size sectors lanes free =
     let a = free 0 (omega arith) in
