@@ -13,7 +13,7 @@ use Rattle.machine.specs.calls.Opening.{openOf}
 use Rattle.runlog.specs.Log.{Log}
 use Rattle.runlog.proofs.Logs.{log-claim}
 use Rattle.replaying.specs.declared.Replayed.{Replayed}
-use Rattle.replaying.specs.Replay.{ran, replayOf}
+use Rattle.replaying.specs.Replay.{replayOf}
 use Rattle.replaying.specs.Gave.{putAnswers, Given, into, gave}
 use Rattle.replaying.proofs.Claimed.{replay-claim}
 use Rattle.replaying.proofs.Outcomes.{put-nothing}

@@ -2,13 +2,12 @@
 -- never refused and leaves the work buffer as it was, and what the record answered is noted.
 use mathlib.Core.Path.{_≡_, refl, sym, ap, ap₂, _∙_, subst}
 use mathlib.Core.List.{List, [], _∷_, _++_, map}
-use Prim.Native.Nat.{ℕ, zero, suc, _+_, _*_, _/_, _≤_}
+use Prim.Native.Nat.{ℕ, suc, _+_, _*_, _/_, _≤_}
 use native.Mathlib.Omega.{arith}
 use lib.Dec.{eqb}
 use lib.ListN.{length, drop, replicate}
 use borrow.Author.Tests.{le-ltb}
 use Rattle.words.specs.Bytes.{Small}
-use Rattle.words.specs.Word.{word}
 use Rattle.format.proofs.Tests.{by-bool}
 use Rattle.format.specs.declared.numbers.LaneNo.{LaneNo}
 use Rattle.format.specs.declared.numbers.SectorNo.{SectorNo}

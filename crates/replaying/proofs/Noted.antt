@@ -1,7 +1,6 @@
 -- The row of a replay against its ledger: a write in flight keeps, in word k, k plus the index of the record whose step stored it, and so
 -- does a sector that was written; every record keeps that.
 use mathlib.Core.Path.{_≡_, refl, sym, ap, _∙_}
-use mathlib.Core.Bool.{true}
 use mathlib.Core.List.{List, [], _∷_, _++_}
 use Prim.Native.Nat.{ℕ, zero, suc, _+_, _*_, _/_, _≤_, _<_}
 use native.Mathlib.Omega.{arith}

@@ -1,5 +1,4 @@
 -- `claims::report_text` ensures its claim: with these figures and records the text computes to its characters.
-use mathlib.Core.Path.{refl}
 use native.Mathlib.Omega.{arith}
 use Rattle.text.specs.Text.{digits, headText, laneText, lanesText, openedText}
 use Rattle.text.specs.Claims.{ReportTextClaim}
