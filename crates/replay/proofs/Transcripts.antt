@@ -1,13 +1,14 @@
 -- What is written: by the arena's length, and then by what the claim about a replay says of it.
-use mathlib.Core.Path.{_≡_, refl}
+use mathlib.Core.Path.{_≡_, refl, _∙_}
 use mathlib.Core.Bool.{false}
 use mathlib.Core.List.{List}
 use Prim.Native.Nat.{ℕ, _≤_}
 use native.Mathlib.Omega.{arith}
-use lib.ListN.{length}
+use lib.ListN.{length, length-replicate}
 use borrow.Author.Tests.{lt-ltb, le-ltb}
 use Rattle.format.proofs.Tests.{by-bool}
 use Rattle.format.proofs.Below.{below-replicate}
+use Rattle.machine.proofs.exhibit.Run.{made, exhibited}
 use Rattle.runlog.specs.Log.{logOf}
 use Rattle.replaying.specs.Replay.{replayOf}
 use Rattle.replaying.specs.Claims.{replies}
@@ -41,4 +42,5 @@ transcript-claim = record {
       (λ t. simp (replayed a log (omega arith), q .0, p .answers, p .stops t .0, p .stops t .1, p .arena, t))
       (λ t. rw (t, no-offset (replies a workBuffer log) ((logOf log) .at) 0)
       (simp (replayed a log (omega arith), q .0, p .answers, p .whole t .0, p .whole t .1, p .arena)));
+  exhibited = (made .bytes .size ∙ length-replicate {A = ℕ} 49152 0, exhibited .small, made .number workBuffer (omega arith));
 }

@@ -8,6 +8,7 @@ use lib.ListN.{length}
 use Rattle.words.specs.Bytes.{Small}
 use Rattle.layout.specs.Told.{alone}
 use Rattle.machine.specs.calls.Opening.{openOf}
+use Rattle.machine.specs.claims.Exhibit.{exhibitFound}
 use Rattle.runlog.specs.Log.{logOf}
 use Rattle.replaying.specs.Claims.{last, replies}
 use Rattle.text.specs.Replay.{replayText}
@@ -29,3 +30,5 @@ pub record TranscriptClaim : Type 0 where
   pub replayed : (a log : List ℕ) → length a ≤ 49152 → Small a → Small log → (openOf alone a workBuffer) .number ≡ 0
       → transcriptOf a log
       ≡ record { text = replayText 0 (replies a workBuffer log) ((logOf log) .stopped) ((logOf log) .at); arena = (last a workBuffer log) .arena }
+  -- an arena of which that is so: the one of case 9
+  pub exhibited : (length exhibitFound ≡ 49152) × Small exhibitFound × ((openOf alone exhibitFound workBuffer) .number ≡ 0)

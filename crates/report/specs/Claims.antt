@@ -4,9 +4,12 @@ use mathlib.Core.Logic.{_≢_}
 use mathlib.Core.List.{List, [], _∷_, _++_}
 use Prim.Native.Nat.{ℕ, _≤_, _<_}
 use lib.ListN.{length}
+use Rattle.words.specs.Bytes.{Small}
 use Rattle.layout.specs.Told.{alone}
+use Rattle.machine.specs.calls.Making.{makeOf}
 use Rattle.machine.specs.calls.Opening.{openOf}
 use Rattle.text.specs.Text.{decimal, openedText}
+use Rattle.text.specs.Claims.{freshReport}
 use Rattle.report.specs.Report.{workBuffer, reportOf}
 
 -- it suffices for any 65,536 bytes: the program never writes `refused 5`
@@ -31,3 +34,7 @@ pub record ReportClaim : Type 0 where
         text = openedText ((openOf alone a workBuffer) .handle) ((openOf alone a workBuffer) .mended);
         input = (openOf alone a workBuffer) .arena;
       }
+  -- the report of document 01, on the arena that making leaves in any 49,152 bytes, whatever its identifiers
+  pub fresh : (a first second : List ℕ) → Small a → Small first → Small second → length a ≡ 49152
+      → let made = makeOf (record { size = 512; sectors = 60; lanes = 4; first = first; second = second }) a in
+      made .number ≡ 0 → (reportOf (made .arena)) .text ≡ freshReport

@@ -21,7 +21,7 @@ use Rattle.runlog.proofs.Laws.{record-in, log-end, log-stop, log-more}
 use Rattle.runlog.proofs.Bytes.{found-at, stands-at}
 
 -- a record has as many bytes as its length says, and they begin with its length and its kind
-sizes : (r : Record) → lengthOf r ≡ length (bytesOf r)
+sizes : (r : Record) → length (bytesOf r) ≡ lengthOf r
 sizes (Start lane sector) = refl
 sizes (Step lane) = refl
 sizes Cut = refl
@@ -33,11 +33,11 @@ heads (Step lane) f = refl
 heads Cut f = refl
 heads Refused f = absurd f
 
--- a record that fits is none that is refused, and has as many bytes as its length says
-fits-runs : (r : Record) → Fits r → (refuses r ≡ false) × (length (bytesOf r) ≡ lengthOf r) × (4 ≤ lengthOf r)
-fits-runs (Start lane sector) f = (refl, refl, omega arith)
-fits-runs (Step lane) f = (refl, refl, omega arith)
-fits-runs Cut f = (refl, refl, omega arith)
+-- a record that fits is none that is refused, and has four bytes or more
+fits-runs : (r : Record) → Fits r → (refuses r ≡ false) × (4 ≤ lengthOf r)
+fits-runs (Start lane sector) f = (refl, omega arith)
+fits-runs (Step lane) f = (refl, omega arith)
+fits-runs Cut f = (refl, omega arith)
 fits-runs Refused f = absurd f
 
 -- the records of a log that are known, before the rest of it
@@ -54,13 +54,14 @@ run-on (r ∷ rs) rest log at f e =
     let here : drop at log ≡ bytesOf r ++ (allBytes rs ++ rest) = e ∙ append-assoc (bytesOf r) (allBytes rs) rest in
     let is-r : recordAt log at ≡ r = found-at log at r (f .0) (ap (take n) here ∙ take-append-seam (bytesOf r) (allBytes rs ++ rest)) in
     let ok = fits-runs r (f .0) in
+    let size = sizes r in
     let long = simp (length-drop, length-append) at (ap length here) in
     let next : drop (at + n) log ≡ allBytes rs ++ rest
     = sym (drop-drop n at log) ∙ (ap (drop n) here ∙ drop-append-seam (bytesOf r) (allBytes rs ++ rest)) in
     let there : at + n + length (allBytes rs) ≡ at + length (bytesOf r ++ allBytes rs) = rw length-append (omega arith) in
     log-more log at (omega arith) (ap refuses is-r ∙ ok .0)
     ∙ (ap (λ (x : Record). after x (logFrom log (at + lengthOf x))) is-r
-    ∙ (ap (λ (m : ℕ). after r (logFrom log (at + m))) (sym (ok .1))
+    ∙ (ap (λ (m : ℕ). after r (logFrom log (at + m))) (sym size)
     ∙ (ap (after r) (run-on rs rest log (at + n) (f .1) next) ∙ ap (λ (m : ℕ). before (r ∷ rs) (logFrom log m)) there)))
 
 log-whole : (rs : List Record) → AllFit rs → length (allBytes rs) ≤ 8192
@@ -114,7 +115,7 @@ every-from (suc n) log at small h =
     (λ e. let r = recordAt log at in
     let s = stands-at log at (λ j. small (at + j)) (λ q. true-false (sym (ap refuses q) ∙ e)) in
     let k = length (bytesOf r) in
-    let size : k ≡ lengthOf r = fits-runs r (s .0) .1 in
+    let size : k ≡ lengthOf r = sizes r in
     let in-log = record-in log at e in
     let rest = every-from n log (at + lengthOf r) small (omega arith) in
     let split : drop at log ≡ bytesOf r ++ drop (at + lengthOf r) log
@@ -157,14 +158,14 @@ log-within log =
 
 -- two bytes are too few for a record
 two-begin-none : BeginsNone (6 ∷ 0 ∷ [])
-two-begin-none r f s = let ok = fits-runs r f in omega (arith, ap length s, length-take {A = ℕ} (length (bytesOf r)) (6 ∷ 0 ∷ []))
+two-begin-none r f s = let ok = fits-runs r f in omega (arith, sizes r, ap length s, length-take {A = ℕ} (length (bytesOf r)) (6 ∷ 0 ∷ []))
 
 pub record-claim : RecordClaim
 record-claim = record {
   found = found-at;
   stands = λ log at small. stands-at log at (λ j. small (at + j));
   head = heads;
-  taken = λ log at. ap (λ (n : ℕ). record { found = recordAt log at; after = at + n }) (sizes (recordAt log at));
+  taken = λ log at. ap (λ (n : ℕ). record { found = recordAt log at; after = at + n }) (sym (sizes (recordAt log at)));
 }
 
 pub log-claim : LogClaim

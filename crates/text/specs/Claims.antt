@@ -51,13 +51,10 @@ pub record TextClaim : Type 0 where
       ++ ((49 ∷ 32 ∷ 114 ∷ 101 ∷ 102 ∷ 117 ∷ 115 ∷ 101 ∷ 100 ∷ 32 ∷ 49 ∷ 50 ∷ 10 ∷ [])
       ++ (115 ∷ 116 ∷ 111 ∷ 112 ∷ 112 ∷ 101 ∷ 100 ∷ 32 ∷ 50 ∷ 48 ∷ 32 ∷ 97 ∷ 116 ∷ 32 ∷ 49 ∷ 54 ∷ 10 ∷ []))
 
--- the report on a fresh arena of 60 sectors of 512 bytes with 4 lanes, as document 01 has it
-abbrev pub ReportTextClaim : Type 0
-ReportTextClaim =
-    (h : Handle) → h .figures .size ≡ 512 → h .figures .sectors ≡ 60 → h .figures .lanes ≡ 4
-    → ((l : ℕ) → l < 4 → ((laneAt (h .lanes) l) .block .0 ≡ 60 + l) × ((laneAt (h .lanes) l) .sequence .0 ≡ 2))
-    → openedText h 0
-    ≡ (115 ∷ 101 ∷ 99 ∷ 116 ∷ 111 ∷ 114 ∷ 32 ∷ 98 ∷ 121 ∷ 116 ∷ 101 ∷ 115 ∷ 32 ∷ 53 ∷ 49 ∷ 50 ∷ 10 ∷ [])
+-- the report that document 01 has for a fresh arena of 60 sectors of 512 bytes with 4 lanes, line by line
+abbrev pub freshReport : List ℕ
+freshReport =
+    (115 ∷ 101 ∷ 99 ∷ 116 ∷ 111 ∷ 114 ∷ 32 ∷ 98 ∷ 121 ∷ 116 ∷ 101 ∷ 115 ∷ 32 ∷ 53 ∷ 49 ∷ 50 ∷ 10 ∷ [])
     ++ ((115 ∷ 101 ∷ 99 ∷ 116 ∷ 111 ∷ 114 ∷ 115 ∷ 32 ∷ 54 ∷ 48 ∷ 10 ∷ [])
     ++ ((108 ∷ 97 ∷ 110 ∷ 101 ∷ 115 ∷ 32 ∷ 52 ∷ 10 ∷ [])
     ++ ((109 ∷ 101 ∷ 110 ∷ 100 ∷ 101 ∷ 100 ∷ 32 ∷ 48 ∷ 10 ∷ [])
@@ -66,3 +63,10 @@ ReportTextClaim =
     ++ ((108 ∷ 97 ∷ 110 ∷ 101 ∷ 32 ∷ 50 ∷ 32 ∷ 102 ∷ 114 ∷ 101 ∷ 101 ∷ 32 ∷ 54 ∷ 50 ∷ 32 ∷ 110 ∷ 101 ∷ 120 ∷ 116 ∷ 32 ∷ 50 ∷ 10 ∷ [])
     ++ ((108 ∷ 97 ∷ 110 ∷ 101 ∷ 32 ∷ 51 ∷ 32 ∷ 102 ∷ 114 ∷ 101 ∷ 101 ∷ 32 ∷ 54 ∷ 51 ∷ 32 ∷ 110 ∷ 101 ∷ 120 ∷ 116 ∷ 32 ∷ 50 ∷ 10 ∷ [])
     ++ (111 ∷ 112 ∷ 101 ∷ 110 ∷ 101 ∷ 100 ∷ 10 ∷ []))))))))
+
+-- it is written of figures and lanes as such an arena has them
+abbrev pub ReportTextClaim : Type 0
+ReportTextClaim =
+    (h : Handle) → h .figures .size ≡ 512 → h .figures .sectors ≡ 60 → h .figures .lanes ≡ 4
+    → ((l : ℕ) → l < 4 → ((laneAt (h .lanes) l) .block .0 ≡ 60 + l) × ((laneAt (h .lanes) l) .sequence .0 ≡ 2))
+    → openedText h 0 ≡ freshReport
