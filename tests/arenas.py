@@ -21,6 +21,8 @@ def put(arena, offset, *words):
 
 FIGURES = model.made_figures(512, 60, 4)
 MAP, FLOG, COPY = FIGURES.map, FIGURES.flog, FIGURES.copy
+# An allowed layout that making does not work out, with a gap before every part.
+LOOSE = model.Figures(512, 10, 512, 12, 2, 8192, 20480, 28672, 36864)
 
 
 def with_blocks(arena, **changes):
@@ -39,6 +41,12 @@ def mapped(arena, sector, word):
     return put(arena, MAP + 4 * sector, word)
 
 
+def padded(arena, lane, offset, value):
+    """One byte of a lane changed."""
+    arena[FLOG + 64 * lane + offset] = value
+    return arena
+
+
 def damaged(arena, *offsets):
     for offset in offsets:
         arena[offset] ^= 1
@@ -46,22 +54,32 @@ def damaged(arena, *offsets):
 
 
 def loose():
-    """An allowed layout that making does not work out: gaps before every part."""
-    f = model.Figures(512, 10, 512, 12, 2, 8192, 20480, 28672, 36864)
-    arena = bytearray(b"\xA5" * (f.copy + 4096))
+    """Gaps before every part, with anything in them."""
+    f, arena = LOOSE, bytearray(b"\xA5" * (LOOSE.copy + 4096))
     arena[f.map : f.map + 40] = bytes(40)
     for lane in range(2):
-        arena[f.flog + 64 * lane : f.flog + 64 * lane + 32] = bytes(32)
+        arena[f.flog + 64 * lane : f.flog + 64 * lane + 64] = bytes(64)
         put(arena, f.flog + 64 * lane, lane, 10 + lane, 10 + lane, 3)
     arena[:4096] = arena[-4096:] = model.info_block(f, b"first identifier", b"other identifier")
     return arena
 
 
 def all_states():
-    """Bad, zeroed and mapped words, and low bits that flags 00 leave ignored."""
+    """Bad, zeroed and mapped words beside words that are zero."""
     arena = fresh()
-    for sector, word in ((3, 0x00000009), (5, 0x40000005), (6, 0x80000006), (8, 0xC0000009), (9, 0xC0000008)):
+    for sector, word in ((5, 0x40000005), (6, 0x80000006), (8, 0xC0000009), (9, 0xC0000008)):
         mapped(arena, sector, word)
+    return arena
+
+
+def unjudged():
+    """Anything in all that no rule judges: unnamed info bytes, gaps, data blocks, older halves, and what lies behind the map and the flog."""
+    f, arena = LOOSE, loose()
+    for start, end in ((4096, f.map), (f.map + 40, f.flog), (f.flog + 128, f.copy)):
+        arena[start:end] = b"\x01" * (end - start)
+    for lane in range(2):
+        put(arena, f.flog + 64 * lane + 16, 0xFFFFFFFF, 0x01010101, 0xFFFFFFFF, 0)
+    arena[:4096] = arena[-4096:] = model.info_block(f, b"\xFF" * 16, b"\xFF" * 16, unnamed=b"\x01" * 3968)
     return arena
 
 
@@ -80,6 +98,7 @@ ARENAS = {
     "wrapped-sequence": lambda: half(half(fresh(), 0, 0, 0, 60, 60, 3), 0, 1, 7, 60, 60, 1),
     "copy-counts": lambda: damaged(fresh(), 20),
     "copy-is-garbage": lambda: damaged(fresh(), COPY, COPY + 100),
+    "unjudged-is-garbage": unjudged,
     "empty": lambda: bytearray(),
     "refused-1-odd": lambda: fresh()[:-1],
     "refused-1-short": lambda: bytearray(16384),
@@ -99,8 +118,18 @@ ARENAS = {
     "refused-6-old": lambda: half(fresh(), 1, 1, 7, 64, 61, 2),
     "refused-6-new": lambda: half(fresh(), 1, 1, 7, 61, 64, 2),
     "refused-6-before-7": lambda: mapped(half(fresh(), 3, 1, 7, 61, 64, 2), 0, 0xC0000040),
+    "refused-6-before-18": lambda: mapped(padded(half(fresh(), 3, 1, 7, 61, 64, 2), 0, 32, 1), 0, 1),
     "refused-7": lambda: mapped(fresh(), 59, 0x40000040),
     "refused-7-high-bits": lambda: mapped(fresh(), 5, 0xE0000005),
+    "refused-7-before-18": lambda: mapped(mapped(padded(fresh(), 0, 32, 1), 0, 1), 59, 0x40000040),
+    "refused-18-word": lambda: mapped(fresh(), 7, 0x00000005),
+    "refused-18-own-number": lambda: mapped(fresh(), 7, 0x00000007),
+    "refused-18-high-bit": lambda: mapped(fresh(), 59, 0x20000000),
+    "refused-18-pending": lambda: mapped(half(fresh(), 0, 1, 7, 7, 60, 2), 7, 0x00000007),
+    "refused-18-padding": lambda: padded(fresh(), 3, 63, 0x80),
+    "refused-18-padding-first-byte": lambda: padded(fresh(), 0, 32, 0x01),
+    "refused-18-before-8": lambda: mapped(mapped(fresh(), 5, 0xC0000006), 59, 0x00000001),
+    "refused-18-padding-before-8": lambda: padded(mapped(fresh(), 5, 0xC0000006), 3, 63, 0x80),
     "refused-8-mapped-twice": lambda: mapped(fresh(), 5, 0xC0000006),
     "refused-8-free-twice": lambda: half(fresh(), 0, 1, 7, 61, 61, 2),
     "refused-8-pending-twice": lambda: half(half(fresh(), 0, 1, 7, 7, 60, 2), 1, 1, 7, 7, 61, 2),

@@ -17,12 +17,21 @@ def reading(arena, f, sector):
     """The number that a read of the sector answers, and the bytes it gives if that is 0."""
     word = struct.unpack_from("<I", arena, f.map + 4 * sector)[0]
     zero, error = word >> 31 & 1, word >> 30 & 1
+    if 0 < word < 2**30:
+        return 18, None
     if error and not zero:
         return 15, None
     if not error:
         return 0, bytes(f.size)
     place = f.data + f.size * (word & 0x3FFFFFFF)
     return 0, bytes(arena[place : place + f.size])
+
+
+def nothing_sloppy(arena, f):
+    """Whether every map word below 2^30 is zero, and so are the bytes of every lane after its two halves."""
+    words = struct.unpack_from("<%dI" % f.sectors, arena, f.map)
+    rests = [arena[lane + 32 : lane + 64] for lane in range(f.flog, f.flog + 64 * f.lanes, 64)]
+    return not any(0 < word < 2**30 for word in words) and not any(map(any, rests))
 
 
 def mapped_blocks(arena, f):

@@ -13,9 +13,9 @@ ZERO, ERROR = 1 << 31, 1 << 30
 DATA_WORD = ZERO | ERROR
 
 ORDER = {
-    "read": (16, 9, 10, 7, 15),
-    "start": (16, 11, 12, 9, 13, 7),
-    "write": (16, 11, 12, 9, 10, 13, 7),
+    "read": (16, 9, 10, 7, 18, 15),
+    "start": (16, 11, 12, 9, 13, 7, 18),
+    "write": (16, 11, 12, 9, 10, 13, 7, 18),
     "step": (16, 11, 14, 10),
 }
 
@@ -86,6 +86,8 @@ def applies(number, arena, handle, lane, sector, length):
     word = map_word(arena, f, sector)
     if number == 7:
         return word >> 30 != 0 and word & 0x3FFFFFFF >= f.blocks
+    if number == 18:
+        return model.sloppy_word(word)
     return word & DATA_WORD == ERROR
 
 

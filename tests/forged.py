@@ -1,6 +1,7 @@
 """Forged handles and random calls: what a history gives the library beside the latest handle and calls that are accepted."""
 import calls
 import model
+import random_arenas
 
 TOP32, TOP64 = 2**32, 2**64
 SIZES = ("size", "sectors", "internal", "blocks", "lanes")
@@ -166,6 +167,46 @@ def forge(rng, handle):
             setattr(forged.figures, name, getattr(forged.figures, name) % top)
     forged.length %= TOP64
     return forged
+
+
+def narrowed(handle, sectors, lanes):
+    """A copy of an allowed handle with fewer sectors or lanes, all its figures and records allowed."""
+    copy = handle.copy()
+    copy.figures.sectors, copy.figures.lanes, copy.figures.blocks = sectors, lanes, sectors + lanes
+    copy.records = [record._replace(block=record.block % copy.figures.blocks) for record in copy.records]
+    return copy
+
+
+def with_record(handle, lane, **fields):
+    """A copy of a handle with fields of one record changed."""
+    copy = handle.copy()
+    copy.records[lane] = copy.records[lane]._replace(**fields)
+    return copy
+
+
+def refusing(handle, lane, sector):
+    """Forged copies of a handle, its lanes idle, with the number by which each refuses a whole write there before a map word is judged."""
+    last = handle.figures.lanes - 1
+    yield 16, with_record(handle, last, half=2)
+    yield 16, with_record(handle, last, sequence=0)
+    yield 16, with_record(handle, lane, block=handle.figures.blocks)
+    for name in ("size", "blocks", "copy"):
+        forged = handle.copy()
+        setattr(forged.figures, name, getattr(handle.figures, name) + 8)
+        yield 16, forged
+    if lane > 0:
+        yield 11, narrowed(handle, handle.figures.sectors, lane)
+    yield 12, with_record(handle, lane, busy=1, sector=sector)
+    if sector >= handle.figures.lanes:
+        yield 9, narrowed(handle, sector, handle.figures.lanes)
+    yield 13, with_record(handle, (lane + 1) % handle.figures.lanes, busy=1, sector=sector, made=handle.figures.size // 4 + 4)
+
+
+def a_word(rng, f):
+    """A map word as another hand may leave it: any flags, low bits at an edge of the blocks, within or past them, or a sloppy word."""
+    block = rng.randrange(f.blocks)
+    low = rng.choice((0, f.blocks - 1, f.blocks, 2**30 - 1, block, random_arenas.past_the_last(rng, f, block)))
+    return rng.choice((rng.randrange(4) << 30 | low,) * 3 + (random_arenas.a_sloppy_word(rng),))
 
 
 def a_lane(rng, handle):

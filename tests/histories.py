@@ -1,6 +1,7 @@
 """Random histories of calls, each call made by the model and by a library and compared, with the promises of the rules checked at every cut.
 
 A history begins with a made, a random valid or a damaged arena, and goes on with calls through the latest handle, power cuts and openings.
+Beside every fourth runs one of sloppy.py, on an arena that another hand makes sloppy.
 Run as a program, with a first seed and a number of histories, it tries the library.
 """
 import random
@@ -14,6 +15,7 @@ import forged
 import library
 import model
 import random_arenas
+import sloppy
 from pair import Difference, Notes, Pair
 
 AMPLE = 2**15
@@ -67,6 +69,7 @@ class History:
             self.pair.make(*wrong[:3], rng.randbytes(wrong[3]), rng.randbytes(wrong[4]))
         self.pair.make(size, sectors, lanes, rng.randbytes(16), rng.randbytes(16))
         self.row = book.Row(self.pair.arena, f)
+        self.demand(book.nothing_sloppy(self.pair.arena, f), "a made arena passes 18")
         self.demand(self.row.sectors == [(0, bytes(size))] * sectors, "the sectors of a made arena are zeroes")
 
     # Openings, and what must hold after them.
@@ -87,7 +90,7 @@ class History:
         while number == 5:
             number, count = pair.open(self.some_room(blocks))
         self.demand(number == expected.number, "the answer is the same after cut openings")
-        self.demand(number == 0 or not self.must_open, "given room to work, the arena opens")
+        self.demand(number == 0 or not self.must_open, "given room to work, the arena opens, and no history leads to 18")
         if number:
             return False
         self.demand(count == left, "opening counts the lanes pending as found")
@@ -111,6 +114,7 @@ class History:
         """Checks the promises on the arena just opened, and begins a new list."""
         pair, f = self.pair, self.pair.handle.figures
         lanes = [(record.block, record.half, record.sequence) for record in pair.handle.records[: f.lanes]]
+        self.demand(book.nothing_sloppy(pair.arena, f), "an opened arena passes 18")
         self.demand(book.each_block_once(pair.arena, f, [lane[0] for lane in lanes]), "mapped and free blocks are every block once")
         row = book.Row(pair.arena, f)
         if self.row is not None:
@@ -126,7 +130,7 @@ class History:
     def after_refusal(self):
         """Calls with the handle of a refused opening: all answer 16."""
         for _ in range(3):
-            number = self.perform(self.pair, *forged.a_call(self.rng, self.pair.handle))
+            number = self.pair.perform(*forged.a_call(self.rng, self.pair.handle))
             self.demand(number == 16, "the handle of a refused opening is refused")
 
     # Power cuts.
@@ -137,6 +141,7 @@ class History:
             self.cut_write()
         for write in self.row.flying.values():
             self.notes.cuts[max(0, write.tally - self.row.words)] += 1
+        self.demand(book.nothing_sloppy(self.pair.arena, self.pair.handle.figures), "calls leave an arena that passes 18")
         self.end_list()
         self.pair.drop()
 
@@ -178,11 +183,9 @@ class History:
             return self.read(sector, length)
         buffer = self.rng.randbytes(length) if isinstance(lent, int) else lent
         by_table = self.book and self.book.answer(name, lane, sector, length)
-        if name == "step":
-            number = pair.step(lane, buffer)
-        else:
-            number = pair.start(lane, sector) if name == "start" else pair.write(lane, sector, buffer)
+        number = pair.perform(name, lane, sector, buffer)
         self.demand(by_table is None or number == by_table, "the book answers as the call does")
+        self.demand(number != 18, "no history leads to 18")
         if number == 0 and name == "step":
             self.row.step(lane, buffer)
         elif number == 0:
@@ -194,6 +197,7 @@ class History:
     def read(self, sector, length):
         """A read gives what the row of sectors has, or leaves its buffer."""
         number, before, after = self.pair.read(sector, length)
+        self.demand(number != 18, "no history leads to 18")
         if length == self.row.size and sector < len(self.row.sectors):
             expected, contents = self.row.sectors[sector]
             self.demand(number == expected and after == (before if number else contents), "a read gives the last finished write")
@@ -288,35 +292,26 @@ class History:
     # Calls on a copy, that are given what is not the latest.
 
     def aside(self):
-        """Calls with a forged handle, a map word changed by another hand, or a slice of another length."""
+        """Calls with a forged handle, a map word or padding changed by another hand, or a slice of another length."""
         rng, pair, chance = self.rng, self.pair, self.rng.random()
-        focus = None
+        focus, f = None, pair.handle.figures
         if chance < 0.65:
             copy = pair.aside(handle=forged.forge(rng, pair.handle))
         elif chance < 0.92:
-            copy, f = pair.aside(), pair.handle.figures
-            focus = forged.a_sector(rng, pair.handle) % f.sectors
-            block = rng.randrange(f.blocks)
-            low = rng.choice((0, f.blocks - 1, f.blocks, 2**30 - 1, block, random_arenas.past_the_last(rng, f, block)))
-            copy.put([(f.map + 4 * focus, rng.randrange(4) << 30 | low)])
+            copy = pair.aside()
         else:
             copy = pair.aside(arena=rng.choice((pair.arena + bytes(4096), pair.arena[:-4096], pair.arena[:-1], b"")))
             copy.handle.length = rng.choice((copy.handle.length, len(copy.arena)))
             copy.hold(copy.handle)
+        if chance < 0.15 or 0.65 <= chance < 0.92:
+            focus = forged.a_sector(rng, pair.handle) % f.sectors
+            copy.put([(f.map + 4 * focus, forged.a_word(rng, f))])
+            copy.put([(f.flog + 64 * rng.randrange(f.lanes) + rng.randrange(32, 64, 4), rng.getrandbits(32))] * rng.randrange(2))
         for _ in range(rng.choice((1, 2, 4))):
-            self.perform(copy, *forged.a_call(rng, copy.handle, focus))
+            copy.perform(*forged.a_call(rng, copy.handle, focus))
         busy = [lane for lane, record in enumerate(copy.handle.records) if record.busy]
         for _ in range(rng.choice((1, 6, 6, 12)) if busy else 0):
-            self.perform(copy, "step", busy[0] if rng.random() < 0.8 else rng.choice(busy), 0, forged.a_length(rng, copy.handle))
-
-    def perform(self, pair, name, lane, sector, length):
-        """One call on that pair, with random bytes."""
-        if name == "read":
-            return pair.read(sector, length)[0]
-        if name == "start":
-            return pair.start(lane, sector)
-        buffer = self.rng.randbytes(length)
-        return pair.step(lane, buffer) if name == "step" else pair.write(lane, sector, buffer)
+            copy.perform("step", busy[0] if rng.random() < 0.8 else rng.choice(busy), 0, forged.a_length(rng, copy.handle))
 
 
 def named(lib, notes):
@@ -346,9 +341,13 @@ def run(lib, count, first=1):
     try:
         named(lib, notes)
         longest(lib, notes)
+        sloppy.try_openings(lib, notes)
+        sloppy.try_orders(lib, notes)
         for seed in range(first, first + count):
             notes.log.clear()
             History(lib, seed, notes).run()
+            if seed % 4 == 0:
+                sloppy.Live(lib, seed, notes).run()
     except Difference as fault:
         return notes, seed, str(fault)
     return notes, seed, None
@@ -357,7 +356,7 @@ def run(lib, count, first=1):
 def unseen(notes):
     """The numbers that no call of a kind gave, of those it can give, and the places where no write was cut."""
     wanted = {name: (0,) + order for name, order in calls.ORDER.items()}
-    wanted.update(make=(0, 1, 3, 10), open=range(9), cut_open=range(9))
+    wanted.update(make=(0, 1, 3, 10), open=(*range(9), 18), cut_open=(*range(9), 18))
     missing = ["%s %d" % (name, number) for name, numbers in wanted.items() for number in numbers if not notes.seen[name, number]]
     return missing + ["cut %d words after the data" % place for place in range(5) if not notes.cuts[place]]
 

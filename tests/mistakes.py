@@ -1,7 +1,7 @@
 """The model with one deliberate mistake, in the place of a library, to see that the histories, the runs and the logs find it.
 
 A mistake is an edit of the model's text. Run as a program it says how many histories each takes, and fails if one is not found.
-The mistakes of PROMISED, and most of the replay, are put into both sides as well, where only the promises of the rules can find them.
+The mistakes of PROMISED, those of rule 18 and most of the replay are put into both sides as well, where only the promises of the rules can find them.
 """
 import contextlib
 import pathlib
@@ -15,6 +15,7 @@ import histories
 import library
 import model
 import replay
+import sloppy_mistakes
 
 HERE = pathlib.Path(__file__).resolve().parent
 LIMIT = 600
@@ -129,8 +130,8 @@ MODEL_MISTAKES = {
     "cut opening makes one store at least": (STORES, STORES.replace("[:k]", "[: k or 1]")),
     "cut opening makes all stores": (STORES, STORES.replace("[:k]", "")),
     "mended to a zeroed sector": ("0xC0000000 + halves[lane][3]) for lane in pending]", "0x80000000 + halves[lane][3]) for lane in pending]"),
-    "the work buffer is kept on 6": ("if opened.number in (0, 6, 7, 8):", "if opened.number in (0, 7, 8):"),
-    "the work buffer is kept on 8": ("if opened.number in (0, 6, 7, 8):", "if opened.number in (0, 6, 7):"),
+    "the work buffer is kept on 6": ("if opened.number in (0, 6, 7, 18, 8):", "if opened.number in (0, 7, 18, 8):"),
+    "the work buffer is kept on 8": ("if opened.number in (0, 6, 7, 18, 8):", "if opened.number in (0, 6, 7, 18):"),
     "the whole work buffer is cleared": ("work[:blocks] = bytes(blocks)", "work[:] = bytes(len(work))"),
     "opening: 7 judges 29 bits": ("word & 0x3FFFFFFF >= f.blocks for", "word & 0x1FFFFFFF >= f.blocks for"),
     "a work buffer of I - 1 will do": ("if room < f.blocks:", "if room < f.blocks - 1:"),
@@ -222,8 +223,8 @@ ONLY_COMPARED = (
     "answers past a short buffer", "a short buffer gets no answer", "a short buffer gets the last answers", "the rest of the answers is cleared",
 )
 
-# 13 never meets 9: a write in flight to a sector past the last is 16.
-SAME = {("start", 9, 13)}
+# 13 never meets 9: a write in flight to a sector past the last is 16; for one word 7, 18 and 15 shut each other out.
+SAME = {("start", 9, 13), ("read", 7, 18), ("read", 18, 15), ("start", 7, 18), ("write", 7, 18)}
 # Where 12 comes before 11 it must bear any lane.
 ANY_LANE = ("return handle.records[lane].busy", "return lane < 16 and handle.records[lane].busy")
 
@@ -327,8 +328,8 @@ def tried_replays(names):
 
 def main(words):
     """Tries every mistake, or those whose names have one of these words."""
-    edits = [("calls", name, edit) for name, edit in {**CALL_MISTAKES, **swapped_orders()}.items()]
-    edits += [("model", name, edit) for name, edit in MODEL_MISTAKES.items()]
+    edits = [("calls", name, edit) for name, edit in {**CALL_MISTAKES, **swapped_orders(), **sloppy_mistakes.CALL_MISTAKES}.items()]
+    edits += [("model", name, edit) for name, edit in {**MODEL_MISTAKES, **sloppy_mistakes.MODEL_MISTAKES}.items()]
     missed = ["no such mistake: " + name for name in set(PROMISED) - {name for _, name, _ in edits}]
     for module, name, edit in edits:
         if words and not any(word in name for word in words):
@@ -336,11 +337,11 @@ def main(words):
         began = time.process_time()
         needed, fault = histories_needed(mistaken_library(module, edit))
         alone = "-"
-        if name in PROMISED:
+        if name in PROMISED or name.startswith("18: "):
             with on_both_sides(module, edit) as lib:
                 alone, fault = histories_needed(lib)
         missed += [name] if None in (needed, alone) else []
-        print("%-40s %5s %5s %6.1f s  %s" % (name, needed, alone, time.process_time() - began, fault.split(", after")[0]), flush=True)
+        print("%-48s %5s %5s %6.1f s  %s" % (name, needed, alone, time.process_time() - began, fault.split(", after")[0]), flush=True)
     missed += tried_checksums([name for name in CHECKSUM_MISTAKES if not words or any(word in name for word in words)])
     missed += tried_replays([name for name in REPLAY_MISTAKES if not words or any(word in name for word in words)])
     count = len(edits) + len(CHECKSUM_MISTAKES) + len(REPLAY_MISTAKES)

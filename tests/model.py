@@ -82,13 +82,14 @@ def made_figures(size, sectors, lanes):
     return Figures(size, sectors, size, blocks, lanes, 4096, map_start, flog, copy)
 
 
-def info_block(f, first, second, flags=0, version=(2, 0), info_size=4096, next_arena=0):
+def info_block(f, first, second, flags=0, version=(2, 0), info_size=4096, next_arena=0, unnamed=b""):
     block = bytearray(BLOCK)
     block[0:16] = SIGNATURE
     block[16:32] = first
     block[32:48] = second
     struct.pack_into("<IHHIIIIII", block, 48, flags, *version, f.size, f.sectors, f.internal, f.blocks, f.lanes, info_size)
     struct.pack_into("<QQQQQ", block, 80, next_arena, f.data, f.map, f.flog, f.copy)
+    block[120 : 120 + len(unnamed)] = unnamed
     struct.pack_into("<Q", block, 4088, checksum(bytes(block)))
     return bytes(block)
 
@@ -152,6 +153,22 @@ def block_of(sector, word):
     return sector if word >> 30 == 0 else word & 0x3FFFFFFF
 
 
+def sloppy_word(word):
+    """Whether a map word has flags 00 and low bits that are not zero."""
+    return word >> 30 == 0 and word & 0x3FFFFFFF != 0
+
+
+def padding(arena, f, lane):
+    """The 32 bytes of a lane's 64 that are in no half."""
+    start = f.flog + 64 * lane
+    return arena[start + 32 : start + 64]
+
+
+def sloppy(arena, f, words):
+    """Whether one of these map words is sloppy, or a byte of the padding of a lane is not zero."""
+    return any(sloppy_word(word) for word in words) or any(any(padding(arena, f, lane)) for lane in range(f.lanes))
+
+
 @dataclass
 class Lane:
     free: int
@@ -195,6 +212,8 @@ def judge(arena, room):
     words = list(struct.unpack_from("<%dI" % f.sectors, arena, f.map))
     if any(word >> 30 != 0 and word & 0x3FFFFFFF >= f.blocks for word in words):
         return Opened(7)
+    if sloppy(arena, f, words):
+        return Opened(18)
     pending = [lane for lane, h in enumerate(halves) if block_of(h[1], words[h[1]]) == h[2]]
     mended = list(words)
     for lane in pending:
@@ -210,7 +229,7 @@ def judge(arena, room):
 def cut_open(arena, work, k):
     """Opens in place, making at most k stores; work is cleared as the rules say."""
     opened = judge(arena, len(work))
-    if opened.number in (0, 6, 7, 8):
+    if opened.number in (0, 6, 7, 18, 8):
         blocks = decode(counting_block(arena))[0].blocks
         work[:blocks] = bytes(blocks)
     for offset, value in opened.stores[:k]:

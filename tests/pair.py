@@ -109,6 +109,15 @@ class Pair:
         self.compare(("write", lane, sector, len(buffer)), (number,), (got,), (buffer, theirs))
         return number
 
+    def perform(self, name, lane, sector, lent):
+        """The call of that name, with these bytes or random ones of that length; gives its number."""
+        buffer = self.rng.randbytes(lent) if isinstance(lent, int) else lent
+        if name == "read":
+            return self.read(sector, len(buffer))[0]
+        if name == "start":
+            return self.start(lane, sector)
+        return self.step(lane, buffer) if name == "step" else self.write(lane, sector, buffer)
+
     def put(self, stores):
         """Makes stores in both arenas without a call, as a cut whole write or a foreign hand leaves them."""
         for offset, value in stores:

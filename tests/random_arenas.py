@@ -1,4 +1,4 @@
-"""Random arenas, valid and damaged: what the report is compared with the model on beside the named ones, and what histories begin with."""
+"""Random arenas, valid, damaged and sloppy: what the report is compared with the model on beside the named ones, and what histories begin with."""
 import random
 import struct
 
@@ -26,16 +26,17 @@ def spread(rng, size, sectors, lanes):
     return f
 
 
-def valid(rng, sizes=SIZES):
-    """An arena with every block mapped or free once, sectors in all four states, and some lanes pending."""
+def valid(rng, sizes=SIZES, layout=spread):
+    """An arena with every block mapped or free once, sectors in all four states, some lanes pending, and anything in what no rule judges."""
     size, sectors, lanes = rng.choice(sizes)
-    f = spread(rng, size, sectors, lanes)
+    f = layout(rng, size, sectors, lanes)
     arena = bytearray(rng.randbytes(f.copy + 4096))
-    block = model.info_block(f, rng.randbytes(16), rng.randbytes(16))
+    block = model.info_block(f, rng.randbytes(16), rng.randbytes(16), unnamed=rng.randbytes(rng.choice((0, 3968))))
     arena[:4096] = arena[-4096:] = block
-    blocks = list(range(f.blocks))
-    rng.shuffle(blocks)
-    free, mapped = blocks[:lanes], blocks[lanes:]
+    blocks, moved = list(range(f.blocks)), rng.sample(range(f.blocks), rng.choice((f.blocks, f.blocks // 2)))
+    for place, moving in zip(moved, rng.sample(moved, len(moved))):
+        blocks[place] = moving
+    mapped, free = blocks[:sectors], blocks[sectors:]
     targets = rng.sample(range(sectors), lanes)
     for lane in range(lanes):
         sector, new, old = targets[lane], free[lane], free[lane]
@@ -46,11 +47,12 @@ def valid(rng, sizes=SIZES):
         start = f.flog + 64 * lane
         struct.pack_into("<I", arena, start + 16 * (1 - half) + 12, older)
         struct.pack_into("<IIII", arena, start + 16 * half, sector, old, new, sequence)
+        arena[start + 32 : start + 64] = bytes(32)
     for sector in range(sectors):
         flags = rng.choice((1, 2, 3, 3))
         word = flags << 30 | mapped[sector]
         if mapped[sector] == sector and rng.random() < 0.5:
-            word = rng.randrange(1 << 30)
+            word = 0
         struct.pack_into("<I", arena, f.map + 4 * sector, word)
     return arena, f
 
@@ -73,16 +75,30 @@ def one_sound_block(rng, arena):
     return arena
 
 
+def a_sloppy_word(rng):
+    """A map word with flags 00 whose low bits are not zero."""
+    return rng.choice((1, 5, 2**30 - 1, 1 << rng.randrange(30), rng.randrange(1, 2**30)))
+
+
+def sloppy(rng, arena, f):
+    """An arena with one sloppy map word, or one byte of the padding of a lane that is not zero."""
+    if rng.random() < 0.5:
+        struct.pack_into("<I", arena, f.map + 4 * rng.randrange(f.sectors), a_sloppy_word(rng))
+    else:
+        arena[f.flog + 64 * rng.randrange(f.lanes) + rng.randrange(32, 64)] = rng.randint(1, 255)
+    return arena
+
+
 def past_the_last(rng, f, block):
     """A number past the last block that ends as `block` does, as 0x20000005 and 0x10005 end as 5."""
     return block | 1 << rng.choice((29, 16, rng.randrange(f.blocks.bit_length(), 30)))
 
 
 def damaged(rng):
-    """A valid arena with one or two words changed in the flog, the map or an info block."""
+    """A valid arena with one or two things changed: a word of the flog, of the map or of an info block, padding, or the length."""
     arena, f = valid(rng)
     for _ in range(rng.randint(1, 2)):
-        place = rng.choice(("flog", "map", "info", "figure", "length"))
+        place = rng.choice(("flog", "map", "sloppy", "info", "figure", "length"))
         if place == "flog":
             at = f.flog + 64 * rng.randrange(f.lanes) + 4 * rng.randrange(8)
             struct.pack_into("<I", arena, at, rng.choice((0, 1, 2, 3, 4, f.blocks - 1, f.blocks, rng.getrandbits(32))))
@@ -92,6 +108,8 @@ def damaged(rng):
             block = model.block_of(sector, *struct.unpack_from("<I", arena, at))
             low = rng.choice((0, rng.randrange(f.blocks), f.blocks, past_the_last(rng, f, block)))
             struct.pack_into("<I", arena, at, rng.randrange(4) << 30 | low)
+        elif place == "sloppy":
+            sloppy(rng, arena, f)
         elif place == "info":
             arena[rng.choice((0, len(arena) - 4096)) + rng.randrange(4096)] ^= 1 << rng.randrange(8)
         elif place == "figure":

@@ -8,12 +8,14 @@ LENGTHS = (0, 1, 3, 4, 4, 5, 6, 6, 8, 10, 10, 12, 260, 262, 266, 65535)
 
 
 def an_arena(rng):
-    """An arena that opens, with lanes pending or not, and seldom a damaged one."""
-    sizes = random_arenas.small_sizes(rng)
-    if rng.random() < 0.05:
+    """An arena that opens, with lanes pending or not, and seldom a damaged or a sloppy one."""
+    sizes, chance = random_arenas.small_sizes(rng), rng.random()
+    if chance < 0.05:
         return random_arenas.damaged(rng)
     arena, f = random_arenas.valid(rng, (sizes,))
     arena = random_arenas.aged(rng, arena, f)
+    if chance < 0.08:
+        return random_arenas.sloppy(rng, arena, f), f
     return (random_arenas.one_sound_block(rng, arena) if rng.random() < 0.1 else arena), f
 
 

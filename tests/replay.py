@@ -27,7 +27,7 @@ CRATE = TOP / "crates" / "replay"
 BY_PROGRAM = 60
 # The kept logs that are replayed on every arena of tests/arenas.
 EVERYWHERE = ("a cut after the sequence word, 132 stores", "8193 bytes", "what ran before a bad record stays")
-# What a record of each kind can answer: a cut's opening is never refused, and a start never meets a bad map word.
+# What a record of each kind can answer: a cut's opening is never refused, and a start meets neither a bad map word nor a sloppy one.
 ANSWERS = {runlog.START: (0, 9, 11, 12, 13), runlog.STEP: (0, 11, 14), runlog.CUT: (0,)}
 
 
@@ -176,7 +176,7 @@ def run(lib, count, first=1):
 def unseen(notes):
     """What never came: an answer of a kind of record, an end, a write cut at a place that matters."""
     missing = ["kind %d %d" % (kind, answer) for kind, answers in ANSWERS.items() for answer in answers if not notes.seen[kind, answer]]
-    missing += ["end %s" % end for end in (*range(1, 9), "end", "long", "stopped") if not notes.ends[end]]
+    missing += ["end %s" % end for end in (*range(1, 9), 18, "end", "long", "stopped") if not notes.ends[end]]
     return missing + ["cut %d words after the data" % place for place in range(5) if not notes.cuts[place]]
 
 

@@ -1,8 +1,9 @@
 """Compares what the programs and the library do with the model.
 
-The report is run on every arena of tests/arenas and on random ones; what `cases`, `runs` and `replay` must write (rt runs them) has to be what the
-model works out; the checksums of random runs of words and of changed info blocks are the model's; the library goes through random
-histories of calls, call by call beside the model; the kept run logs of tests/logs and random ones are replayed by the library and the program.
+The report is run on every arena of tests/arenas, on random ones and on those of sloppy.py; what `cases`, `runs` and `replay` must write
+(rt runs them) has to be what the model works out; the checksums of random runs of words and of changed info blocks are the model's; the
+library goes through random histories of calls, call by call beside the model; the kept run logs of tests/logs and random ones are replayed
+by the library and the program.
 """
 import collections
 import pathlib
@@ -19,6 +20,7 @@ import model
 import random_arenas
 import replay
 import running_cases
+import sloppy
 
 TOP = pathlib.Path(__file__).resolve().parent.parent
 REPORT = TOP / "target" / "bin" / "report"
@@ -50,6 +52,19 @@ def check_report(arena):
 def answer_of(arena):
     """The number that the model answers for these bytes."""
     return model.judge(bytearray(arena), 128).number if len(arena) <= model.REPORT_LIMIT else 1
+
+
+def check_sloppy():
+    """What is wrong with the reports on the arenas of sloppy.py, as lines."""
+    wrong, answers = [], collections.Counter()
+    for what, number, arena, _ in sloppy.all_arenas():
+        due = number if len(arena) <= model.REPORT_LIMIT else 1
+        fault = check_report(bytes(arena)) or (None if answer_of(arena) == due else "the model answers %d, not %d" % (answer_of(arena), due))
+        answers[due] += 1
+        if fault:
+            wrong.append("%s: %s" % (what, fault))
+    print("tests: %d sloppy arenas and those beside them, answers %s" % (sum(answers.values()), dict(sorted(answers.items()))))
+    return wrong
 
 
 def check_running_cases():
@@ -108,7 +123,7 @@ def main():
     if (cases.CASES / "stdout").read_text() != cases.text():
         wrong.append("cases: the stored text is not the model's")
     lib = library.built()
-    wrong += check_running_cases() + check_checksums(lib) + check_histories(lib) + check_replays(lib)
+    wrong += check_sloppy() + check_running_cases() + check_checksums(lib) + check_histories(lib) + check_replays(lib)
     for line in wrong:
         print("tests: " + line)
     print("tests: %d named and %d random arenas, answers %s, %d faults" % (len(built), RANDOM, dict(sorted(answers.items())), len(wrong)))

@@ -40,6 +40,7 @@ enum btt_answer {
     BTT_LANE_IDLE = 14,         /* the lane has no write in flight */
     BTT_BAD_SECTOR = 15,        /* the sector read is marked bad: its map word has bit 30 (Error) alone */
     BTT_BAD_HANDLE = 16,        /* the handle breaks a figure, has a record out of range, or does not match the arena's length */
+    BTT_SLOPPY = 18,            /* a map word with neither flag is not 0, or the padding of a lane is not */
     BTT_BAD_RECORD = 20         /* a record of the log is short, has another length than its kind, or an unknown kind; or the log is too long */
 };
 
@@ -110,9 +111,10 @@ void btt_info_block(const uint8_t *arena, size_t arena_length, uint64_t *offset,
 
 /*
  * Opens an arena: all is judged before anything is stored, then each pending lane is mended by one store to the map.
- * The work buffer needs a byte for each block. On 0, 6, 7 and 8 as many of its bytes as there are blocks are 0 afterwards, the rest and on
- * 1 to 5 all of it is unchanged. *mended is the number of lanes that were pending.
- * Answers 1 to 8 in order; a refusal leaves the arena, makes *mended 0 and all of *handle zeroes.
+ * The work buffer needs a byte for each block. On 0, 6, 7, 8 and 18 as many of its bytes as there are blocks are 0 afterwards, the rest and
+ * on 1 to 5 all of it is unchanged. *mended is the number of lanes that were pending.
+ * Answers 1 to 7, 18, 8 in order, 18 over all map words and all lanes; a refusal leaves the arena, makes *mended 0 and all of *handle
+ * zeroes.
  */
 uint32_t btt_open(uint8_t *arena, size_t arena_length, uint8_t *work, size_t work_length, struct btt_handle *handle, uint32_t *mended);
 
@@ -125,14 +127,14 @@ uint32_t btt_cut_open(uint8_t *arena, size_t arena_length, uint8_t *work, size_t
 /*
  * Reads a sector into a buffer of a sector's length: what the last finished write stored, or zeroes where the sector was never written
  * or its map word has bit 31 (Zero) alone; with bit 30 (Error) alone it is bad.
- * Answers 16, 9, 10, 7 (of that sector's map word), 15; a refusal leaves the buffer.
+ * Answers 16, 9, 10, 7 and 18 (of that sector's map word), 15; a refusal leaves the buffer.
  */
 uint32_t btt_read(const uint8_t *arena, size_t arena_length, const struct btt_handle *handle, uint32_t sector, uint8_t *buffer,
                   size_t buffer_length);
 
 /*
  * Starts a write to a sector on an idle lane. The arena is not changed; the lane's record remembers the write.
- * Answers 16, 11, 12, 9, 13, 7; a refusal changes nothing.
+ * Answers 16, 11, 12, 9, 13, 7 and 18 (of that sector's map word); a refusal changes nothing.
  */
 uint32_t btt_start(const uint8_t *arena, size_t arena_length, struct btt_handle *handle, uint32_t lane, uint32_t sector);
 
@@ -146,7 +148,7 @@ uint32_t btt_step(uint8_t *arena, size_t arena_length, struct btt_handle *handle
 
 /*
  * Makes a whole write, a start and all its steps, in one call. It is refused before any store.
- * Answers 16, 11, 12, 9, 10, 13, 7; a refusal changes nothing.
+ * Answers 16, 11, 12, 9, 10, 13, 7 and 18 (of that sector's map word); a refusal changes nothing.
  */
 uint32_t btt_write(uint8_t *arena, size_t arena_length, struct btt_handle *handle, uint32_t lane, uint32_t sector, const uint8_t *buffer,
                    size_t buffer_length);
@@ -172,8 +174,8 @@ uint32_t btt_next_store(const uint8_t *arena, size_t arena_length, const struct 
  * The work buffer is as for btt_open. answers gets a byte for each record that ran, its answer; a short buffer gets the first that fit, all
  * else being as with a long one, and bytes past those are unchanged. *records is the number of records that ran, and *stopped the byte
  * offset at which the record begins that ended the replay, 0 if none did.
- * Answers 1 to 8 of the opening, then 20. On 1 to 8 nothing ran: arena and work buffer are as btt_open leaves them, answers is unchanged,
- * and both numbers are 0.
+ * Answers 1 to 7, 18 and 8 of the opening, then 20. If the opening is refused nothing ran: arena and work buffer are as btt_open leaves
+ * them, answers is unchanged, and both numbers are 0.
  */
 uint32_t btt_replay(uint8_t *arena, size_t arena_length, uint8_t *work, size_t work_length, const uint8_t *log, size_t log_length,
                     uint8_t *answers, size_t answers_length, uint64_t *records, uint64_t *stopped);
@@ -201,6 +203,9 @@ static inline const char *btt_answer_text(uint32_t answer)
         "the handle does not fit the arena, or has a record out of range"
     };
 
+    if (answer == BTT_SLOPPY) {
+        return "the arena is sloppy: a map word with neither flag is not 0, or the padding of a lane is not";
+    }
     if (answer == BTT_BAD_RECORD) {
         return "a record of the log is short, of another length than its kind's or of no known kind, or the log is longer than 8,192 bytes";
     }

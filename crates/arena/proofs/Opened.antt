@@ -35,6 +35,7 @@ use Rattle.machine.proofs.stores.Stores.{putAll-length}
 use Rattle.machine.proofs.opening.Ghosts.{Consistent}
 use Rattle.machine.proofs.opening.Consistent.{consistent-kept, found-kept}
 use Rattle.machine.proofs.opening.Opens.{Opens, open-zero, opens-consistent}
+use Rattle.machine.proofs.invariant.Tidy.{of-tidy}
 use Rattle.lanes.specs.Fit.{AllFit}
 use Rattle.judge.specs.Judge.{judgedFigures}
 use Rattle.judge.proofs.Rules.{described-fit}
@@ -55,7 +56,7 @@ module _ (t : Told) (told : ToldOk t) (a work : List ℕ) (n : ℕ) (f : Figures
 
   pub mendable : Mendable (t .distance) f a
   mendable = record {
-    all = record { fit = fits; lanes = rw figures-are (opens .lanes); words = rw figures-are (opens .words) };
+    all = record { fit = fits; lanes = rw figures-are (opens .lanes); words = rw figures-are (opens .words); clean = rw figures-are (opens .clean) };
     settled = rw figures-are (opens .settled);
   }
 
@@ -75,6 +76,7 @@ module _ (t : Told) (told : ToldOk t) (a work : List ℕ) (n : ℕ) (f : Figures
           fit = subst (Fit (t .distance) f) (sym after-length) fits;
           lanes = rw (every-intro (g .N) (laneReadable g (mended g a)) (j .lanes));
           words = some-intro (g .E) (λ s. badWord (g .I) (mapWord g (mended g a) s)) (j .words);
+          clean = of-tidy g (mended g a) (j .tidy);
         }
 
     handle-is : handleRead (t .distance) f (mended (layoutOf (t .distance) f) a) ≡ handleFor t a

@@ -12,7 +12,7 @@ use lib.ListN.{length, take, length-set, length-take, List·getD-eq-default}
 use lib.Seq.{getD-set-same, set-getD, set-set, length-take-le, take-set-lt}
 use borrow.Author.Tests.{eqb-true, eqb-false}
 use Rattle.format.specs.Sequence.{successor}
-use Rattle.format.specs.MapWord.{flagsOf, lowBits, blockOf}
+use Rattle.format.specs.MapWord.{lowBits, blockOf}
 use Rattle.format.proofs.Tests.{by-bool}
 use Rattle.layout.specs.Figures.{maxLanes}
 use Rattle.layout.specs.Place.{Layout, layoutOf}
@@ -82,7 +82,7 @@ changed-full l h g p f u =
 
 block-fits : (s w : ℕ) → s < 4294967296 → blockOf s w < 4294967296
 unfolding blockOf
-block-fits s w u = go (eqb (flagsOf w) 0)
+block-fits s w u = go (eqb w 0)
   where
     go : (t : Bool) → cond t s (lowBits w) < 4294967296
     go true = u

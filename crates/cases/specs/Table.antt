@@ -1,10 +1,17 @@
 -- The worked figures of document 01 that are marked to be proved, cases 1 to 8, as one table of values computed and values due.
+use mathlib.Core.Bool.{cond}
 use mathlib.Core.List.{List, [], _∷_, _++_}
-use Prim.Native.Nat.{_+_}
+use Prim.Native.Nat.{ℕ, _+_}
+use lib.ListN.{replicate}
 use Rattle.fletcher.specs.Fletcher.{fletcher64}
 use Rattle.format.specs.Sequence.{successor, newer}
-use Rattle.format.specs.MapWord.{flagsOf, readingOf, blockOf}
+use Rattle.format.specs.MapWord.{flagsOf, readingOf, blockOf, sloppyWord}
 use Rattle.layout.specs.Figures.{freshFigures, freshLength}
+use Rattle.layout.specs.Told.{alone}
+use Rattle.machine.specs.calls.Opening.{openOf}
+use Rattle.machine.specs.calls.Reading.{readOf}
+use Rattle.machine.specs.calls.Writing.{startOf, writeOf}
+use Rattle.machine.specs.claims.Exhibit.{exhibitWork, exhibitState, exhibitSloppy}
 use Rattle.cases.specs.Worked.{Worked, _is_}
 use Rattle.cases.specs.Pending.{case6, case7, case8}
 
@@ -18,21 +25,33 @@ case2 =
     (newer 1 0 is 0) ∷ (newer 0 1 is 1) ∷ (newer 3 1 is 1) ∷ (newer 1 3 is 0) ∷ (newer 2 3 is 1)
     ∷ (newer 0 0 is 2) ∷ (newer 2 2 is 2) ∷ (newer 4 1 is 2) ∷ (newer 0 4 is 2) ∷ []
 
--- case 3: at sector 7, the block and the reading of a word: 0 zeroes, 1 bad, 2 data
+-- case 3: at sector 7 of the arena of case 5, 0x00000005 is refused with 18 by an opening and by a read, a start and a whole write
+abbrev pub case3-refused : List Worked
+case3-refused =
+    ((openOf alone exhibitSloppy exhibitWork) .number is 18) ∷ ((readOf exhibitSloppy (exhibitState .handle) 7 (replicate 512 0)) .number is 18)
+    ∷ ((startOf exhibitSloppy (exhibitState .handle) 0 7) .number is 18)
+    ∷ ((writeOf exhibitSloppy (exhibitState .handle) 0 7 (replicate 512 0)) .number is 18) ∷ []
+
+-- the other words of case 3, at sector 7: the block and the reading, 0 zeroes, 1 bad, 2 data
 abbrev pub case3 : List Worked
 case3 =
-    (blockOf 7 0x00000005 is 7) ∷ (readingOf (flagsOf 0x00000005) is 0)
-    ∷ (blockOf 7 0x40000005 is 5) ∷ (readingOf (flagsOf 0x40000005) is 1)
+    (blockOf 7 0x40000005 is 5) ∷ (readingOf (flagsOf 0x40000005) is 1)
     ∷ (blockOf 7 0x80000005 is 5) ∷ (readingOf (flagsOf 0x80000005) is 0)
     ∷ (blockOf 7 0xC0000005 is 5) ∷ (readingOf (flagsOf 0xC0000005) is 2) ∷ []
 
--- beside case 3: each of bits 29 to 0 counts, and under flags 00 none does
+-- 1 where a word is sloppy
+abbrev pub isSloppy : ℕ → ℕ
+isSloppy w = cond (sloppyWord w) 1 0
+
+-- beside case 3: each of bits 29 to 0 counts, and under flags 00 each is refused
 abbrev pub case3-bits : List Worked
 case3-bits =
     (blockOf 7 0xE0000005 is 0x20000005) ∷ (readingOf (flagsOf 0xE0000005) is 2)
     ∷ (blockOf 7 0xC0010005 is 0x10005) ∷ (blockOf 7 0x7FFFFFFF is 0x3FFFFFFF)
     ∷ (readingOf (flagsOf 0x7FFFFFFF) is 1) ∷ (readingOf (flagsOf 0xBFFFFFFF) is 0)
-    ∷ (blockOf 7 0x3FFFFFFF is 7) ∷ (readingOf (flagsOf 0x3FFFFFFF) is 0) ∷ []
+    ∷ (blockOf 7 0 is 7) ∷ (readingOf (flagsOf 0) is 0) ∷ (isSloppy 0 is 0)
+    ∷ (isSloppy 1 is 1) ∷ (isSloppy 0x20000000 is 1) ∷ (isSloppy 0x3FFFFFFF is 1)
+    ∷ (isSloppy 0x40000000 is 0) ∷ (isSloppy 0x80000005 is 0) ∷ []
 
 -- case 4: checksums of runs of words
 abbrev pub case4 : List Worked
@@ -55,4 +74,5 @@ case5 =
 
 unfoldable pub table : List Worked
 table =
-    case1 ++ (case2 ++ (case3 ++ (case3-bits ++ (case4 ++ (case4-turns ++ (case5 ++ (case6 1 ++ (case6 0 ++ (case7 1 ++ (case7 0 ++ case8))))))))))
+    case1 ++ (case2 ++ (case3 ++ (case3-bits ++ (case4 ++ (case4-turns ++ (case5
+    ++ (case3-refused ++ (case6 1 ++ (case6 0 ++ (case7 1 ++ (case7 0 ++ case8)))))))))))

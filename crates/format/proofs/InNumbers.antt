@@ -3,19 +3,19 @@ use mathlib.Core.Path.{_≡_, refl, sym, ap₂}
 use mathlib.Core.Logic.{inl, inr}
 use mathlib.Core.Bool.{Bool, true, false, cond, not}
 use mathlib.Core.List.{List}
-use Prim.Native.Nat.{ℕ, _+_, _-_, _*_, _≤_, _<_}
+use Prim.Native.Nat.{ℕ, _+_, _-_, _*_, _≤_}
 use native.Mathlib.Omega.{arith}
 use native.Mathlib.Nat.{div-add-mod'}
-use native.Mathlib.Decide.{decLe, decLt}
+use native.Mathlib.Decide.{decLe}
 use lib.Dec.{eqb, leb}
-use borrow.Author.Tests.{eq-eqb, ne-eqb, eqb-true, eqb-false, leb-true, le-leb, lt-ltb, le-ltb, not-true}
+use borrow.Author.Tests.{ne-eqb, eqb-true, eqb-false, leb-true, le-leb, not-true}
 use Rattle.words.specs.Bytes.{byteWord}
 use Rattle.words.proofs.Bytes.{word-at}
-use Rattle.format.specs.MapWord.{flagsOf, lowBits, readingOf, blockOf, badWord}
+use Rattle.format.specs.MapWord.{flagsOf, lowBits, readingOf, blockOf, badWord, sloppyWord}
 use Rattle.format.specs.Sequence.{successor, newer}
 use Rattle.format.specs.Flog.{newerOfPair, halfAt}
-use Rattle.format.specs.Claims.{Bit30Alone, namedBlock, BadWord, Means, MapWordsClaim, NewerThan, HalfFrom, FlogClaim}
-use Rattle.format.proofs.Tests.{true-false, and-elim}
+use Rattle.format.specs.Claims.{Bit30Alone, namedBlock, BadWord, SloppyWord, Means, MapWordsClaim, NewerThan, HalfFrom, FlogClaim}
+use Rattle.format.proofs.Tests.{true-false, by-bool, and-elim}
 use Rattle.format.proofs.NewerCases.{
   newer-big,
   newer-big-second,
@@ -26,26 +26,38 @@ use Rattle.format.proofs.NewerCases.{
   newer-first,
   upTo3,
 }
-use Rattle.format.proofs.MapWord.{block-mapped, flags-mapped}
+use Rattle.format.proofs.MapWord.{block-mapped, block-zero, flags-mapped, is-sloppy, sloppy-is}
 
--- a word of which the flags are known
-word-of : (s w n r b : ℕ) → flagsOf w ≡ n → readingOf n ≡ r → cond (eqb n 0) s (lowBits w) ≡ b → Means s w r b
+-- a word of which the flags are known, and are set
+word-is : (s w n r b : ℕ) → flagsOf w ≡ n → 1 ≤ n → readingOf n ≡ r → lowBits w ≡ b → Means s w r b
 unfolding blockOf
-word-of s w n r b e f g = record { reads = rw e f; block = rw e g }
+word-is s w n r b e u f g = record { reads = rw e f; block = rw (ne-eqb w 0 (λ z. omega arith)) g }
 
 block-named : (s w : ℕ) → blockOf s w ≡ namedBlock s w
 unfolding blockOf
-block-named s w = go (decLt w 1073741824)
-  where
-    go : Dec (w < 1073741824) → cond (eqb (flagsOf w) 0) s (lowBits w) ≡ namedBlock s w
-    go (yes u) = rw (eq-eqb (flagsOf w) 0 (omega arith), lt-ltb w 1073741824 u)
-    go (no u) = rw (ne-eqb (flagsOf w) 0 (λ e. omega arith), le-ltb w 1073741824 (omega arith))
+block-named s w = refl
 
 rule-7 : (blocks w : ℕ) → badWord blocks w ≡ true → BadWord blocks w
 rule-7 blocks w e =
     let p = and-elim (not (eqb (flagsOf w) 0)) (leb blocks (lowBits w)) e in
     let n = eqb-false (flagsOf w) 0 (not-true (eqb (flagsOf w) 0) (p .0)) in
     (omega arith, leb-true blocks (lowBits w) (p .1))
+
+rule-18 : (w : ℕ) → sloppyWord w ≡ true → SloppyWord w
+rule-18 w e = let p = is-sloppy (flagsOf w) (lowBits w) e in (omega (arith, p .0), omega (arith, p .1))
+
+rule-18-back : (w : ℕ) → SloppyWord w → sloppyWord w ≡ true
+rule-18-back w u = sloppy-is (flagsOf w) (lowBits w) (omega arith) (λ e. omega arith)
+
+-- where a rule's test is not true
+not-bad : (blocks w : ℕ) → (BadWord blocks w → ⊥) → badWord blocks w ≡ false
+not-bad blocks w n = by-bool (badWord blocks w) _ (λ t. absurd (n (rule-7 blocks w t))) (λ t. t)
+
+not-sloppy : (w : ℕ) → (SloppyWord w → ⊥) → sloppyWord w ≡ false
+not-sloppy w n = by-bool (sloppyWord w) _ (λ t. absurd (n (rule-18 w t))) (λ t. t)
+
+rule-7-back : (blocks w : ℕ) → BadWord blocks w → badWord blocks w ≡ true
+rule-7-back blocks w b = rw (ne-eqb (flagsOf w) 0 (λ e. omega arith), le-leb blocks (lowBits w) (b .1))
 
 rule-15 : (w : ℕ) → eqb (readingOf (flagsOf w)) 1 ≡ true → Bit30Alone w
 rule-15 w e = go (eqb (flagsOf w) 3) (eqb (flagsOf w) 1) refl e
@@ -58,10 +70,10 @@ rule-15 w e = go (eqb (flagsOf w) 3) (eqb (flagsOf w) 1) refl e
 pub map-words : MapWordsClaim
 map-words =
     record {
-      flags-00 = λ s w h. word-of s w 0 0 s (omega arith) refl refl;
-      flags-01 = λ s w h. word-of s w 1 1 (w - 1073741824) (omega arith) refl (omega arith);
-      flags-10 = λ s w h. word-of s w 2 0 (w - 2147483648) (omega arith) refl (omega arith);
-      flags-11 = λ s w h. word-of s w 3 2 (w - 3221225472) (omega arith) refl (omega arith);
+      flags-00 = λ s. record { reads = refl; block = block-zero s };
+      flags-01 = λ s w h. word-is s w 1 1 (w - 1073741824) (omega arith) (omega arith) refl (omega arith);
+      flags-10 = λ s w h. word-is s w 2 0 (w - 2147483648) (omega arith) (omega arith) refl (omega arith);
+      flags-11 = λ s w h. word-is s w 3 2 (w - 3221225472) (omega arith) (omega arith) refl (omega arith);
       states = (refl, refl, refl, refl);
       readings = (refl, refl, refl);
       bits = λ w. div-add-mod' w 1073741824;
@@ -70,7 +82,12 @@ map-words =
       written = λ b. refl;
       written-reads = λ s b h. record { reads = rw (flags-mapped b h); block = block-mapped s b h };
       rule-7 = rule-7;
-      rule-7-back = λ blocks w b. rw (ne-eqb (flagsOf w) 0 (λ e. omega arith), le-leb blocks (lowBits w) (b .1));
+      rule-7-back = rule-7-back;
+      rule-18 = rule-18;
+      rule-18-back = rule-18-back;
+      fault-7 = λ blocks w b. rw (rule-7-back blocks w b);
+      fault-18 = λ blocks w u. rw (not-bad blocks w (λ b. omega (arith, b .0, u .0)), rule-18-back w u);
+      fault-none = λ blocks w b u. rw (not-bad blocks w b, not-sloppy w u);
       rule-15 = rule-15;
       rule-15-back = λ w b. let f : flagsOf w ≡ 1 = omega arith in rw f;
     }

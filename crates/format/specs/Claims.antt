@@ -4,9 +4,9 @@ use mathlib.Core.Logic.{_⊎_}
 use mathlib.Core.Bool.{true, cond}
 use mathlib.Core.List.{List}
 use Prim.Native.Nat.{ℕ, _+_, _-_, _*_, _%_, _≤_, _<_}
-use lib.Dec.{eqb, ltb}
+use lib.Dec.{eqb}
 use Rattle.words.specs.Bytes.{byteWord}
-use Rattle.format.specs.MapWord.{flagsOf, lowBits, flagBits, readingOf, readingNumber, blockOf, mappedTo, badWord}
+use Rattle.format.specs.MapWord.{flagsOf, lowBits, flagBits, readingOf, readingNumber, blockOf, mappedTo, badWord, sloppyWord, wordFault}
 use Rattle.format.specs.Sequence.{successor, nextOf, newer, halfOf}
 use Rattle.format.specs.Flog.{newerOfPair, halfAt}
 use Rattle.format.specs.declared.map.MapState.the-variants.{Unwritten, Bad, Zeroed, Data}
@@ -32,13 +32,17 @@ Bit31Alone w = (0x80000000 ≤ w) × (w < 0xC0000000)
 abbrev pub BothBits : ℕ → Type 0
 BothBits w = (0xC0000000 ≤ w) × (w < 0x100000000)
 
--- the block of word w of sector s: its own number where neither bit is set, else bits 29 to 0
+-- the block of word w of sector s: its own number where the word is 0, else bits 29 to 0
 abbrev pub namedBlock : ℕ → ℕ → ℕ
-namedBlock s w = cond (ltb w 0x40000000) s (w % 0x40000000)
+namedBlock s w = cond (eqb w 0) s (w % 0x40000000)
 
 -- rule 7: a bit is set, and bits 29 to 0 are I or more
 abbrev pub BadWord : ℕ → ℕ → Type 0
 BadWord blocks w = (0x40000000 ≤ w) × (blocks ≤ w % 0x40000000)
+
+-- rule 18, of a word: neither bit is set, and the word is not 0
+abbrev pub SloppyWord : ℕ → Type 0
+SloppyWord w = NeitherBit w × (0 < w)
 
 -- a word w of sector s reads as r, which is zeroes (0), the bad-sector answer (1) or the block's bytes (2), and stands for block b
 pub record Means (s w r b : ℕ) : Type 0 where
@@ -47,8 +51,8 @@ pub record Means (s w r b : ℕ) : Type 0 where
 
 -- FORMAT 4
 pub record MapWordsClaim : Type 0 where
-  -- 00: zeroes, and the sector's own number
-  pub flags-00 : (s w : ℕ) → NeitherBit w → Means s w 0 s
+  -- 00, the word being 0: zeroes, and the sector's own number
+  pub flags-00 : (s : ℕ) → Means s 0 0 s
   -- 01: bad, and the low bits
   pub flags-01 : (s w : ℕ) → Bit30Alone w → Means s w 1 (w - 0x40000000)
   -- 10: zeroes, and the low bits
@@ -67,6 +71,12 @@ pub record MapWordsClaim : Type 0 where
   pub written-reads : (s b : ℕ) → b < 0x40000000 → Means s (mappedTo b) 2 b
   pub rule-7 : (blocks w : ℕ) → badWord blocks w ≡ true → BadWord blocks w
   pub rule-7-back : (blocks w : ℕ) → BadWord blocks w → badWord blocks w ≡ true
+  pub rule-18 : (w : ℕ) → sloppyWord w ≡ true → SloppyWord w
+  pub rule-18-back : (w : ℕ) → SloppyWord w → sloppyWord w ≡ true
+  -- the number of a word: 7, 18 or, where neither rule applies, 0
+  pub fault-7 : (blocks w : ℕ) → BadWord blocks w → wordFault blocks w ≡ 7
+  pub fault-18 : (blocks w : ℕ) → SloppyWord w → wordFault blocks w ≡ 18
+  pub fault-none : (blocks w : ℕ) → (BadWord blocks w → ⊥) → (SloppyWord w → ⊥) → wordFault blocks w ≡ 0
   -- rule 15: bit 30 alone
   pub rule-15 : (w : ℕ) → eqb (readingOf (flagsOf w)) 1 ≡ true → Bit30Alone w
   pub rule-15-back : (w : ℕ) → Bit30Alone w → eqb (readingOf (flagsOf w)) 1 ≡ true

@@ -1,15 +1,18 @@
--- Opening's order in the parts in which it is judged: rules 1 to 4, 5, and 6 to 8; and what each part leaves of the number, the figures
+-- Opening's order in the parts in which it is judged: rules 1 to 4, 5, and 6, 7, 18 and 8; and what each part leaves of the number, the figures
 -- and the work buffer.
 use mathlib.Core.Path.{_≡_, refl, sym, _∙_}
+use mathlib.Core.Logic.{inl, inr}
 use mathlib.Core.Bool.{true, false, cond, not}
 use mathlib.Core.List.{List, [], _∷_}
 use Prim.Native.Nat.{ℕ, _≤_, _<_}
+use native.Mathlib.Omega.{arith}
 use lib.Dec.{eqb}
 use lib.ListN.{length}
-use borrow.Author.Tests.{eqb-true, lt-ltb, le-ltb, not-false}
+use borrow.Author.Tests.{eqb-true, eqb-false, lt-ltb, le-ltb, not-false}
 use Rattle.words.specs.Bytes.{Small}
+use Rattle.format.proofs.Tests.{by-bool, true-or}
 use Rattle.layout.specs.Fit.{Fit}
-use Rattle.layout.specs.Place.{layoutOf}
+use Rattle.layout.specs.Place.{Layout, layoutOf}
 use Rattle.layout.specs.declared.Figures.{Figures}
 use Rattle.layout.specs.declared.Told.{Told}
 use Rattle.layout.proofs.Allowed.{fit-of}
@@ -29,6 +32,8 @@ use Rattle.machine.specs.calls.Opening.{
   figuresIn,
   layoutIn,
   lanesLost,
+  wordBad,
+  sloppy,
   unsettled,
 }
 use Rattle.machine.proofs.rules.Rules.{walked, stop, pass, through, passed-all, answer-append}
@@ -37,7 +42,7 @@ use Rattle.machine.proofs.opening.Opens.{some-number-open, lanes-pass}
 use Rattle.machine.proofs.opening.Spare.{rule8}
 use Rattle.lanes.proofs.Lanes.{fit-arena}
 use Rattle.once.specs.Once.{cleared, blocksOnce}
-use Rattle.judge.specs.Judge.{judgedFigures}
+use Rattle.judge.specs.Judge.{judgedFigures, someSloppy, somePadding, wordsNumber}
 
 -- an arena that passes rules 1 to 4 fits its figures
 pub described-fit : (t : Told) → ToldOk t → (a : List ℕ) → Described t a → Fit (t .distance) (figuresIn a) (length a)
@@ -52,6 +57,46 @@ unfolding blocksOnce
 once-or-not d f a t small e =
     let g = layoutOf d f in
     rule8 g (t .ok) a (fit-arena d f a t small) (lanes-pass g a e)
+
+-- rules 6, 7, 18 and 8 as judge_map finds them: 18 in two parts, with the map's words and then over the lanes
+module _ (t : Told) (a : List ℕ) (f : Figures) (are : f ≡ figuresIn a) where
+  abbrev g : Layout
+  g = layoutOf (t .distance) f
+
+  abbrev Answered : ℕ → Type 0
+  Answered n = (room : ℕ) → n ≡ answer numberOpen (testsOpen t a room) mapRules
+
+  pub words-passed : wordsNumber g a ≡ 0 → (wordBad g a ≡ false) × (someSloppy g a ≡ false)
+  words-passed e = by-bool (wordBad g a) _ (λ p. absurd (omega (arith, rw p at e)))
+      (λ p. by-bool (someSloppy g a) _ (λ q. absurd (omega (arith, rw (p, q) at e))) (λ q. (p, q)))
+
+  pub passed-clean : wordsNumber g a ≡ 0 → somePadding g a ≡ false → sloppy g a ≡ false
+  passed-clean e p = rw (words-passed e .1, p)
+
+  pub lost-walk : lanesLost g a ≡ true → Answered 6
+  lost-walk e room = walked (stop (rw (← are) e))
+
+  module _ (lanes : lanesLost g a ≡ false) where
+    pub words-walk : (n : ℕ) → n ≡ wordsNumber g a → eqb n 0 ≡ false → Answered n
+    words-walk n e z room = by-bool (wordBad g a) _
+        (λ p. rw (e, p) (walked (pass (rw (← are) lanes) (stop (rw (← are) p)))))
+        (λ p. by-bool (someSloppy g a) _
+        (λ q. rw (e, p, q) (walked (pass (rw (← are) lanes) (pass (rw (← are) p) (stop (rw (← are) (true-or _ (somePadding g a) (inl q))))))))
+        (λ q. absurd (eqb-false n 0 z (e ∙ rw (p, q)))))
+
+    module _ (words : wordsNumber g a ≡ 0) where
+      pub padding-walk : somePadding g a ≡ true → Answered 18
+      padding-walk p room =
+          walked (pass (rw (← are) lanes) (pass (rw (← are) (words-passed words .0)) (stop (rw (← are) (true-or (someSloppy g a) _ (inr p))))))
+
+      module _ (padding : somePadding g a ≡ false) where
+        pub invalid-walk : unsettled g a ≡ true → Answered 8
+        invalid-walk u room = walked (pass (rw (← are) lanes)
+            (pass (rw (← are) (words-passed words .0)) (pass (rw (← are) (passed-clean words padding)) (stop (rw (← are) u)))))
+
+        pub valid-walk : unsettled g a ≡ false → Answered 0
+        valid-walk u room = walked (pass (rw (← are) lanes)
+            (pass (rw (← are) (words-passed words .0)) (pass (rw (← are) (passed-clean words padding)) (pass (rw (← are) u) through))))
 
 module _ (t : Told) (a : List ℕ) (room : ℕ) where
   -- the number that a part of the order gives

@@ -1,6 +1,6 @@
-// Opening's rules 1 to 8: all is judged before anything is stored.
+// Opening's rules 1 to 8 and 18: all is judged before anything is stored.
 use super::info::info_block;
-use format::map::bad_word;
+use format::map::word_fault;
 use format::numbers::LaneNo;
 use format::numbers::SectorNo;
 use infoblock::figures_of;
@@ -8,6 +8,7 @@ use infoblock::flags_allowed;
 use infoblock::info_allowed;
 use lanes::lane_readable;
 use lanes::map_word;
+use lanes::padding_set;
 use layout::Figures;
 use layout::Told;
 use layout::length_allowed;
@@ -24,10 +25,10 @@ ghost use Rattle.machine.specs.Rules.{answer};
 ghost use Rattle.machine.specs.state.Answer.{numberOf};
 ghost use Rattle.machine.specs.state.Handle.{noFigures, ToldOk};
 ghost use Rattle.machine.specs.calls.Opening.{numberOpen, testsOpen, infoRules, mapRules, openNumber};
-ghost use Rattle.machine.specs.calls.Opening.{figuresIn, lanesLost, wordBad, workAfter};
+ghost use Rattle.machine.specs.calls.Opening.{figuresIn, lanesLost, workAfter};
 ghost use Rattle.lanes.specs.Fit.{MapFit};
 ghost use Rattle.once.specs.Once.{cleared};
-ghost use Rattle.judge.specs.Judge.{judgedFigures};
+ghost use Rattle.judge.specs.Judge.{judgedFigures, somePadding, wordsNumber};
 
 // What judging finds: an answer, and the figures where it is Done.
 pub struct Judged {
@@ -87,22 +88,45 @@ fn lanes_lost(a: &[u8], f: Figures, d: u32) -> bool
     false
 }
 
-// Rule 7: whether some sector's map word names a block past the last.
-fn some_bad_word(a: &[u8], f: Figures) -> bool
+// Rules 7 and 18, of the map's words in one pass: 7 if some word names a block past the last, else 18 if some word is sloppy.
+fn judge_words(a: &[u8], f: Figures) -> Answer
     requires { ⌜ MapFit f (length (now a)) ⌝ }
-    ensures { λ r. ⌜ ((d : ℕ) → r ≡ wordBad (layoutOf d f) (now (a .entry))) ⌝ }
+    ensures { λ r. ⌜ ((d : ℕ) → numberOf r ≡ wordsNumber (layoutOf d f) (now (a .entry))) ⌝ }
 {
+    let mut sloppy = false;
     let mut s: u32 = 0;
     while s < f.sectors {
-        if bad_word(f.blocks, map_word(a, f, SectorNo(s))) {
-            return true;
+        let fault = word_fault(f.blocks, map_word(a, f, SectorNo(s)));
+        if fault == 7 {
+            return Answer::BadMapWord;
+        }
+        if fault == 18 {
+            sloppy = true;
         }
         s += 1;
+    }
+    if sloppy {
+        return Answer::Sloppy;
+    }
+    Answer::Done
+}
+
+// Rule 18, of the flog: whether some lane's padding is not zero.
+fn some_padding(a: &[u8], f: Figures, d: u32) -> bool
+    requires { ⌜ Fit d f (length (now a)) ⌝ }
+    ensures { λ r. ⌜ r ≡ somePadding (layoutOf d f) (now (a .entry)) ⌝ }
+{
+    let mut l: u32 = 0;
+    while l < f.lanes {
+        if padding_set(a, f, d, LaneNo(l)) {
+            return true;
+        }
+        l += 1;
     }
     false
 }
 
-// Rules 6 to 8. The first blocks bytes of the work buffer are 0 afterwards.
+// Rules 6, 7, 18 and 8. The first blocks bytes of the work buffer are 0 afterwards.
 fn judge_map(a: &[u8], told: Told, f: Figures, work: &mut [u8]) -> Answer
     requires { ⌜ Fit (told .distance) f (length (now a)) × (f ≡ figuresIn (now a)) × (f .blocks ≤ length (now work)) ⌝ }
     ensures { λ r. ⌜ ((room : ℕ) → numberOf r ≡ answer numberOpen (testsOpen told (now (a .entry)) room) mapRules) ⌝ }
@@ -112,9 +136,14 @@ fn judge_map(a: &[u8], told: Told, f: Figures, work: &mut [u8]) -> Answer
         clear(work, f.blocks as usize);
         return Answer::LostLane;
     }
-    if some_bad_word(a, f) {
+    let words = judge_words(a, f);
+    if !words.is_done() {
         clear(work, f.blocks as usize);
-        return Answer::BadMapWord;
+        return words;
+    }
+    if some_padding(a, f, told.distance) {
+        clear(work, f.blocks as usize);
+        return Answer::Sloppy;
     }
     if !blocks_once(a, f, told.distance, work) {
         return Answer::NotValid;
@@ -122,7 +151,7 @@ fn judge_map(a: &[u8], told: Told, f: Figures, work: &mut [u8]) -> Answer
     Answer::Done
 }
 
-// Rules 1 to 8, as an opening is told, with the figures where none applies.
+// Rules 1 to 8 and 18, as an opening is told, with the figures where none applies.
 pub fn judge(a: &[u8], told: Told, work: &mut [u8]) -> Judged
     requires { ⌜ ToldOk told ⌝ }
     ensures { λ r. ⌜ numberOf (r .answer) ≡ openNumber told (now (a .entry)) (length (now (work .entry))) ⌝ }

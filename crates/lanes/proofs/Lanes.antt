@@ -11,7 +11,7 @@ use Rattle.words.specs.Word.{word}
 use Rattle.words.specs.Bytes.{Small}
 use Rattle.format.specs.Sequence.{newer}
 use Rattle.format.specs.Flog.{newerOfPair, halfAt}
-use Rattle.layout.specs.Place.{Layout, layoutOf, inFlog, at}
+use Rattle.layout.specs.Place.{Layout, layoutOf, inFlog, at, laneWordAt}
 use Rattle.layout.specs.declared.Figures.{Figures}
 use Rattle.format.specs.declared.flog.Half.{Half}
 use Rattle.layout.proofs.Place.{at-inside}
@@ -48,6 +48,11 @@ pub pair-newer : (d : ℕ) (f : Figures) (a : List ℕ) (l : ℕ)
     → newerOfPair a (at (layoutOf d f) (inFlog l 0 0)) (d / 4) ≡ newerHalf (layoutOf d f) a l
 unfolding layoutOf newerOfPair newerHalf
 pair-newer d f a l = ap₂ (λ (x : ℕ) (y : ℕ). newer (word a x) (word a y)) (omega arith) (omega arith)
+
+-- each word of a lane lies inside the arena
+pub lane-inside : (d : ℕ) (f : Figures) (n : ℕ) → Fit d f n → (l k : ℕ) → l < f .lanes → k < 16 → 4 * laneWordAt (layoutOf d f) l k + 4 ≤ n
+unfolding layoutOf
+lane-inside d f n t l k p q = omega (arith, t .ok .copy-after, t .room)
 
 -- the newer half's words, one by one
 pub newer-words : (g : Layout) (a : List ℕ) (l : ℕ) → newerFlog g a l ≡ record {

@@ -9,6 +9,8 @@ use format::numbers::SectorNo;
 use format::sequence::Newer;
 use layout::Figures;
 use layout::flog_place;
+use layout::is_padding;
+use layout::lane_place;
 use layout::map_place;
 use machine::lane::Lane;
 use words::word_at;
@@ -16,7 +18,7 @@ ghost use mathlib.Core.Path.{_≡_};
 ghost use Prim.Native.Nat.{ℕ, _<_};
 ghost use lib.ListN.{length};
 ghost use Rattle.layout.specs.Place.{layoutOf};
-ghost use Rattle.machine.specs.state.Flog.{mapWord, mapBlock, newerHalf, freeOf, spareOf, pending, newerFlog};
+ghost use Rattle.machine.specs.state.Flog.{mapWord, mapBlock, newerHalf, freeOf, spareOf, pending, newerFlog, paddingSet};
 ghost use Rattle.machine.specs.calls.Opening.{laneReadable, foundLane};
 ghost use Rattle.layout.specs.Fit.{Fit};
 ghost use Rattle.lanes.specs.Fit.{MapFit, LaneFit};
@@ -75,6 +77,23 @@ pub fn lane_readable(a: &[u8], f: Figures, d: u32, l: LaneNo) -> bool
         return false;
     }
     h.new.0 < f.blocks
+}
+
+// Rule 18, of one lane: whether some word of its padding is not zero.
+pub fn padding_set(a: &[u8], f: Figures, d: u32, l: LaneNo) -> bool
+    requires { ⌜ Fit d f (length (now a)) × (l .0 < f .lanes) ⌝ }
+    ensures { λ r. ⌜ r ≡ paddingSet (layoutOf d f) (now (a .entry)) (l .0) ⌝ }
+{
+    let mut k: usize = 0;
+    while k < 16 {
+        if is_padding(d, k) {
+            if word_at(a, lane_place(f, l, k)) != 0 {
+                return true;
+            }
+        }
+        k += 1;
+    }
+    false
 }
 
 // Whether a lane is pending: the block of map[sector] is old.

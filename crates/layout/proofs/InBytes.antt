@@ -1,5 +1,6 @@
 -- The claims about figures: from the tests taken apart, from the sums that making rounds up, and from places in bytes.
 use mathlib.Core.Path.{_≡_, refl, ap, _∙_}
+use mathlib.Core.Logic.{inr, ⊎-elim}
 use mathlib.Core.Bool.{true}
 use mathlib.Core.List.{List}
 use Prim.Native.Nat.{ℕ, _+_, _*_, _%_}
@@ -23,7 +24,8 @@ use Rattle.layout.specs.Place.{layoutOf}
 use Rattle.layout.specs.Claims.{Length, Sizes, LeastMultiple, FreshLayout, Places, FiguresFrom, AllowedClaim, FreshLayoutClaim, PlacesClaim}
 use Rattle.layout.specs.declared.Figures.{Figures}
 use Rattle.layout.proofs.Allowed.{sizes-of, of-sizes, size-words, starts-exact, allowed-of, of-allowed, made-allowed}
-use Rattle.layout.proofs.Offsets.{data-start, map-start, flog-start}
+use Rattle.layout.proofs.Offsets.{data-start, map-start, flog-start, lane-start}
+use Rattle.layout.proofs.Padding.{padding-is, is-padding, padding-byte, byte-padding}
 
 length-is : (n : ℕ) → lengthAllowed n ≡ true → Length n
 length-is n e =
@@ -87,6 +89,9 @@ places-of f n ok =
       in-data = data-start 16 f n ok;
       in-map = map-start 16 f n ok;
       in-flog = λ l h k. flog-start 16 f n ok refl l h k ∙ ap (λ (x : ℕ). f .flogoff + 64 * l + x + 4 * k) (omega arith);
+      in-lane = lane-start 16 f n ok;
+      padding = λ k e. let p = padding-is 4 k e in ⊎-elim (λ u. omega (arith, p .0)) (λ u. omega arith) (p .1);
+      padding-back = λ k u. is-padding 4 k (omega arith, inr (omega arith));
       copy = starts-exact f n ok .3;
       sector = omega (arith, size-words f n ok .0);
       sectors = refl;
@@ -110,4 +115,13 @@ figures-from b i j =
     }
 
 pub places-claim : PlacesClaim
-places-claim = record { places = places-of; by-itself = (refl, refl); figures = figures-from }
+places-claim =
+    record {
+      places = places-of;
+      by-itself = (refl, refl);
+      padding-byte = padding-byte;
+      padding-byte-back = byte-padding;
+      padding-by-itself = λ j p. ⊎-elim (λ u. omega (arith, p .0)) (λ u. u) (p .1);
+      padding-by-itself-back = λ j u. (omega arith, inr u);
+      figures = figures-from;
+    }

@@ -3,7 +3,7 @@ use mathlib.Core.Path.{_≡_}
 use Prim.Native.Nat.{ℕ, _+_, _*_, _/_, _%_}
 use native.Mathlib.Omega.{arith}
 use Rattle.layout.specs.Figures.{Allowed}
-use Rattle.layout.specs.Place.{layoutOf, at, inData, inMap, inFlog}
+use Rattle.layout.specs.Place.{layoutOf, at, inData, inMap, inFlog, laneWordAt}
 use Rattle.layout.specs.declared.Figures.{Figures}
 use Rattle.layout.proofs.Allowed.{starts-exact, internal-words, quarter}
 
@@ -24,3 +24,7 @@ module _ (d : ℕ) (f : Figures) (n : ℕ) (ok : Allowed f n) where
   flog-start e l h k =
       let q : h * d ≡ 4 * (h * (d / 4)) = quarter h d e in
       omega (arith, q, starts-exact f n ok .2)
+
+  pub lane-start : (l k : ℕ) → 4 * laneWordAt (layoutOf d f) l k ≡ f .flogoff + 64 * l + 4 * k
+  unfolding layoutOf
+  lane-start l k = omega (arith, starts-exact f n ok .2)

@@ -3,7 +3,7 @@ use mathlib.Core.Path.{_≡_}
 use mathlib.Core.Logic.{_⊎_}
 use mathlib.Core.Bool.{true}
 use mathlib.Core.List.{List}
-use Prim.Native.Nat.{ℕ, _+_, _*_, _%_, _≤_, _<_}
+use Prim.Native.Nat.{ℕ, _+_, _*_, _/_, _%_, _≤_, _<_}
 use Rattle.words.specs.Bytes.{byteWord, byteLong}
 use Rattle.layout.specs.Figures.{
   lengthAllowed,
@@ -15,8 +15,8 @@ use Rattle.layout.specs.Figures.{
   freshFigures,
   figuresAt,
 }
-use Rattle.layout.specs.Place.{layoutOf, at, inData, inMap, inFlog}
-use Rattle.layout.specs.Told.{alone}
+use Rattle.layout.specs.Place.{layoutOf, at, inData, inMap, inFlog, laneWordAt, isPadding}
+use Rattle.layout.specs.Told.{alone, DistanceOk}
 use Rattle.layout.specs.declared.Figures.{Figures}
 
 -- FORMAT 2.2: a multiple of 4,096, from 20,480 to 16,777,216
@@ -51,6 +51,10 @@ pub record FreshLayout (S E N : ℕ) (f : Figures) (length : ℕ) : Type 0 where
   pub copy-start : LeastMultiple (f .flogoff + 64 * N) (f .copyoff)
   pub end : length ≡ f .copyoff + 4096
 
+-- byte j of a lane's 64 is in no half: the first half is 16 bytes from 0 on, the second 16 from d on
+abbrev pub InPadding : ℕ → ℕ → Type 0
+InPadding d j = (16 ≤ j) × ((j < d) ⊎ (d + 16 ≤ j))
+
 -- where an arena with those figures has its words, in bytes, and how much of each there is
 pub record Places (f : Figures) : Type 0 where
   -- word k of block b
@@ -59,6 +63,11 @@ pub record Places (f : Figures) : Type 0 where
   pub in-map : (s : ℕ) → 4 * at (layoutOf 16 f) (inMap s) ≡ f .mapoff + 4 * s
   -- word k of half h of lane l
   pub in-flog : (l h k : ℕ) → 4 * at (layoutOf 16 f) (inFlog l h k) ≡ f .flogoff + 64 * l + 16 * h + 4 * k
+  -- word k of the 16 of lane l
+  pub in-lane : (l k : ℕ) → 4 * laneWordAt (layoutOf 16 f) l k ≡ f .flogoff + 64 * l + 4 * k
+  -- padding is what starts at byte 32 or later
+  pub padding : (k : ℕ) → isPadding ((layoutOf 16 f) .D) k ≡ true → 32 ≤ 4 * k
+  pub padding-back : (k : ℕ) → 32 ≤ 4 * k → isPadding ((layoutOf 16 f) .D) k ≡ true
   -- the copy of the info block
   pub copy : 4 * (layoutOf 16 f) .copy₀ ≡ f .copyoff
   -- how many there are: bytes of a sector, sectors, lanes and blocks
@@ -101,4 +110,10 @@ pub record PlacesClaim : Type 0 where
   pub places : (f : Figures) (n : ℕ) → Allowed f n → Places f
   -- an arena opened by itself: no arena follows, and a lane's halves start 16 bytes apart
   pub by-itself : (alone .next ≡ 0) × (alone .distance ≡ 16)
+  -- byte j of a lane is padding exactly if its word is, whatever the distance between the halves
+  pub padding-byte : (d j : ℕ) → DistanceOk d → isPadding (d / 4) (j / 4) ≡ true → InPadding d j
+  pub padding-byte-back : (d j : ℕ) → DistanceOk d → InPadding d j → isPadding (d / 4) (j / 4) ≡ true
+  -- of an arena opened by itself: bytes 32 to 63
+  pub padding-by-itself : (j : ℕ) → InPadding (alone .distance) j → 32 ≤ j
+  pub padding-by-itself-back : (j : ℕ) → 32 ≤ j → InPadding (alone .distance) j
   pub figures : (b : List ℕ) (i j : ℕ) → FiguresFrom b (4 * i) (4 * j) (figuresAt b i j)

@@ -8,15 +8,18 @@ use words::long_at;
 use words::word_at;
 ghost use mathlib.Core.Path.{_≡_};
 ghost use mathlib.Core.Bool.{true};
-ghost use Prim.Native.Nat.{ℕ, _+_, _*_, _≤_, _<_};
+ghost use Prim.Native.Nat.{ℕ, _+_, _*_, _/_, _≤_, _<_};
 ghost use lib.ListN.{length};
 ghost use Rattle.layout.specs.Figures.{maxSize, internalOf, lengthAllowed, sizesAllowed, startsAligned, partsInOrder, figuresAllowed};
 ghost use Rattle.layout.specs.Figures.{roundUp, freshLength, freshFigures, figuresAt};
-ghost use Rattle.layout.specs.Place.{layoutOf, inData, inMap, inFlog, at};
+ghost use Rattle.layout.specs.Place.{layoutOf, inData, inMap, inFlog, at, laneWordAt, isPadding};
 ghost use Rattle.layout.specs.Told.{alone};
 
 // The most lanes that an arena has.
 pub const MAX_LANES: u32 = 16;
+
+// The words of a half of a lane's flog.
+const HALF_WORDS: usize = 4;
 
 // The figures of an arena, as its info block has them; starts are in bytes.
 pub struct Figures {
@@ -233,6 +236,28 @@ pub fn flog_place(f: Figures, d: u32, lane: LaneNo, half: u32, k: usize) -> usiz
     ensures { λ r. ⌜ r ≡ at (layoutOf d f) (inFlog (lane .0) half k) ⌝ }
 {
     (f.flogoff / 4) as usize + (16 * (lane.0 as usize) + (half as usize * ((d / 4) as usize) + k))
+}
+
+// The word number of word k of a lane's 16.
+pub fn lane_place(f: Figures, lane: LaneNo, k: usize) -> usize
+    requires { ⌜ k < 16 ⌝ }
+    ensures { λ r. ⌜ ((d : ℕ) → r ≡ laneWordAt (layoutOf d f) (lane .0) k) ⌝ }
+{
+    (f.flogoff / 4) as usize + (16 * (lane.0 as usize) + k)
+}
+
+// Whether word k of a lane's 16 is padding, where the halves start d bytes apart.
+pub fn is_padding(d: u32, k: usize) -> bool
+    ensures { λ r. ⌜ r ≡ isPadding (d / 4) k ⌝ }
+{
+    if k < HALF_WORDS {
+        return false;
+    }
+    let second = (d / 4) as usize;
+    if k < second {
+        return true;
+    }
+    second + HALF_WORDS <= k
 }
 
 // The word number of word k of a block.

@@ -3,3 +3,4 @@ pub mod LentBytes
 pub mod Marked
 pub mod Premise
 pub mod Run
+pub mod Sloppy

@@ -7,3 +7,4 @@ pub mod Lanes
 pub mod Steps
 pub mod Asides
 pub mod MapWords
+pub mod Tidy

@@ -1,4 +1,5 @@
 pub mod Answers
+pub mod Clean
 pub mod Cuts
 pub mod Described
 pub mod Ends

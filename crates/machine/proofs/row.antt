@@ -12,3 +12,4 @@ pub mod State
 pub mod Steps
 pub mod Words
 pub mod Zeroes
+pub mod StaysClean

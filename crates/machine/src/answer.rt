@@ -4,7 +4,7 @@ ghost use mathlib.Core.Bool.{Bool};
 ghost use lib.Dec.{eqb};
 ghost use Rattle.machine.specs.state.Answer.{numberOf};
 
-// Each with its number in document 01's table of refusals, and 20 of the run log.
+// Each with its number in document 01's table of refusals, 18 of a sloppy arena and 20 of the run log.
 pub enum Answer {
     // 0: accepted.
     Done,
@@ -40,6 +40,8 @@ pub enum Answer {
     BadSector,
     // 16: the handle breaks a figure or does not match the slice.
     BadHandle,
+    // 18: a map word with flags 00 or the padding of a lane is not zero.
+    Sloppy,
     // 20: a record of a run log is short, has another length than its kind or an unknown kind, or the log is too long.
     BadRecord,
 }
@@ -67,6 +69,7 @@ impl Answer {
             Answer::LaneIdle => 14,
             Answer::BadSector => 15,
             Answer::BadHandle => 16,
+            Answer::Sloppy => 18,
             Answer::BadRecord => 20,
         }
     }

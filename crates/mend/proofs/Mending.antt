@@ -22,6 +22,7 @@ use Rattle.machine.proofs.opening.Opens.{lanes-pass, words-pass}
 use borrow.Author.Tests.{ltb-true, ltb-false, not-false}
 use Rattle.format.proofs.Tests.{by-bool, or-false}
 use Rattle.lanes.proofs.Lanes.{fit-arena}
+use Rattle.machine.proofs.invariant.Tidy.{tidy-of}
 use Rattle.mend.specs.Mend.{Mendable, mendedAt}
 
 -- an arena that can be mended, in its layout
@@ -35,6 +36,7 @@ mendable-consistent d f a m small =
       arena = fit-arena d f a (t .fit) small;
       lanes = lanes-pass g a (t .lanes);
       words = words-pass g a (t .words);
+      tidy = tidy-of g a (t .clean);
       apart = p .0;
       once = not-false _ (p .1);
     }

@@ -10,7 +10,7 @@ use Rattle.machine.specs.state.Flog.{pending}
 use Rattle.machine.specs.calls.Opening.{mendStore, unsettled}
 use Rattle.lanes.specs.Fit.{AllFit}
 
--- an arena that rules 6 to 8 let pass
+-- an arena that rules 6 to 8 and 18 let pass
 pub record Mendable (d : ℕ) (f : Figures) (a : List ℕ) : Type 0 where
   pub all : AllFit d f a
   pub settled : unsettled (layoutOf d f) a ≡ false

@@ -1,4 +1,4 @@
--- What rules 6 and 7 give of the blocks, and the course of blocks_once by what the bytes tell of the counts.
+-- What rules 6, 7 and 18 give of the blocks, and the course of blocks_once by what the bytes tell of the counts.
 use mathlib.Core.Path.{_≡_, sym, ap, ap₂, _∙_}
 use mathlib.Core.Bool.{Bool, true, false, cond, _&&_}
 use mathlib.Core.List.{List}
@@ -11,19 +11,20 @@ use Rattle.layout.specs.declared.Figures.{Figures}
 use Rattle.machine.specs.state.Flog.{mapWord, mapBlock, freeOf, spareOf, pending, newerWord}
 use Rattle.machine.proofs.opening.Mends.{readable-of}
 use Rattle.machine.proofs.opening.Opens.{words-pass}
+use Rattle.machine.proofs.invariant.Tidy.{tidy-of}
 use Rattle.lanes.specs.Fit.{AllFit}
 use Rattle.lanes.proofs.Lanes.{map-fit, lane-fit}
 use Rattle.once.specs.Once.{cleared, counted, countsBetween, laneBlock, blocksOnce, Under, MapUnder}
 use Rattle.once.proofs.Counts.{most-tell, once-tell, cleared-again, cleared-twice}
 
--- what rules 6 and 7 give of the blocks
+-- what rules 6, 7 and 18 give of the blocks
 module _ (d : ℕ) (f : Figures) (a : List ℕ) (fit : AllFit d f a) where
   pub map-under : MapUnder f a
   unfolding layoutOf
   map-under = record {
     fit = map-fit d f (length a) (fit .fit);
     under = λ e s h. block-in (f .blocks) s (mapWord (layoutOf d f) a s) (omega (arith, fit .fit .ok .blocks))
-        (words-pass (layoutOf d f) a (fit .words) s h);
+        (words-pass (layoutOf d f) a (fit .words) s h) (tidy-of (layoutOf d f) a (fit .clean) .words s h);
   }
 
   free-under : Under (freeOf (layoutOf d f) a) (f .lanes) (f .blocks)

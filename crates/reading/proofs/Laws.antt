@@ -48,7 +48,7 @@ module _ (a : List ℕ) (h : Handle) (s : ℕ) (b : List ℕ) (r : Answer) (e : 
         let l = handle-ok h (length a) (known .handle) .figures in
         let z = size-words (h .figures) (length a) l in
         let i : mapBlock g a s < h .figures .blocks =
-        block-in (h .figures .blocks) s (mapWord g a s) (omega (arith, l .blocks, known .sector)) (known .word) in
+        block-in (h .figures .blocks) s (mapWord g a s) (omega (arith, l .blocks, known .sector)) (known .word) (known .clean) in
         let k = at-inside g (f .ok) (inData (mapBlock g a s) (h .figures .size / 4 - 1)) (i, omega (arith, z .0, z .1)) in
         omega (arith, k, f .room, z .0, z .1)
 

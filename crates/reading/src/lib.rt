@@ -1,8 +1,8 @@
 // Reading a sector.
 use format::map::MapState;
 use format::map::Reading;
-use format::map::bad_word;
 use format::map::block_of;
+use format::map::word_fault;
 use format::numbers::SectorNo;
 use lanes::map_word;
 use layout::data_place;
@@ -48,8 +48,12 @@ fn judge_read(arena: &[u8], h: Handle, sector: SectorNo, buffer: &[u8]) -> Answe
         return Answer::WrongBuffer;
     }
     let word = map_word(arena, f, sector);
-    if bad_word(f.blocks, word) {
+    let fault = word_fault(f.blocks, word);
+    if fault == 7 {
         return Answer::BadMapWord;
+    }
+    if fault == 18 {
+        return Answer::Sloppy;
     }
     if reading_of(word) == 1 {
         return Answer::BadSector;

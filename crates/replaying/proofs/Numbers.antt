@@ -20,6 +20,7 @@ use Rattle.machine.specs.declared.answer.Answer.the-variants.{
   LaneIdle,
   BadSector,
   BadHandle,
+  Sloppy,
   BadRecord,
 }
 use Rattle.machine.specs.state.Answer.{numberOf}
@@ -42,4 +43,5 @@ number-small SectorBusy = omega arith
 number-small LaneIdle = omega arith
 number-small BadSector = omega arith
 number-small BadHandle = omega arith
+number-small Sloppy = omega arith
 number-small BadRecord = omega arith

@@ -1,11 +1,10 @@
 -- What is reported: by the input's length, and then by the opening's number; of a made arena by what making promises of it.
 use mathlib.Core.Path.{_≡_, refl, ap, _∙_}
 use mathlib.Core.List.{List}
-use Prim.Native.Nat.{ℕ, _≤_, _<_, _+_}
+use Prim.Native.Nat.{ℕ, _≤_}
 use native.Mathlib.Omega.{arith}
 use lib.ListN.{length}
 use borrow.Author.Tests.{lt-ltb, le-ltb, ne-eqb}
-use Rattle.words.specs.Bytes.{Small}
 use Rattle.layout.specs.Figures.{freshFigures}
 use Rattle.layout.specs.Told.{alone}
 use Rattle.layout.specs.declared.Figures.{Figures}
@@ -19,7 +18,7 @@ use Rattle.machine.proofs.opening.Opens.{opened-figures}
 use Rattle.text.specs.Text.{digits, refusedText}
 use Rattle.text.specs.Claims.{freshReport}
 use Rattle.text.proofs.Reported.{report-text}
-use Rattle.report.specs.Report.{Report, workBuffer, maxInput, reportOf}
+use Rattle.report.specs.Report.{workBuffer, maxInput, reportOf}
 use Rattle.report.specs.Claims.{ReportClaim}
 
 -- a made arena with the figures of document 01's example

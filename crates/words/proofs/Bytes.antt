@@ -1,10 +1,11 @@
 -- Words by byte offset: that definitions by word number and by byte say the same.
 use mathlib.Core.Path.{_≡_, refl, sym, ap, _∙_}
-use mathlib.Core.Logic.{_⊎_, ⊎-elim}
+use mathlib.Core.Logic.{_≢_, _⊎_, ⊎-elim}
 use mathlib.Core.List.{List, [], _∷_}
 use Prim.Native.Nat.{ℕ, zero, suc, _+_, _*_, _/_, _%_, _≤_, _<_}
 use native.Mathlib.Omega.{arith}
 use native.Mathlib.Nat.{zero-add}
+use native.Mathlib.Decide.{ℕ-discrete}
 use lib.ListN.{length, getD, take, drop, length-take, length-drop}
 use Rattle.words.specs.Word.{word, putWord, putWords, wordsFrom, long, putLong}
 use Rattle.words.specs.Bytes.{byteWord, byteLong, wordsIn}
@@ -49,6 +50,18 @@ unfolding word
 byte-zero a k s e =
     let z = word-bytes a [] (k / 4) 0 s (λ j. omega arith) e in
     quad (λ j. getD a j 0 ≡ 0) (k / 4) (z .0) (z .1) (z .2) (z .3) k refl
+
+-- a word that is not zero has a byte that is not
+pub byte-set : (a : List ℕ) (i : ℕ) → word a i ≢ 0 → (k : ℕ) × (k / 4 ≡ i) × (getD a k 0 ≢ 0)
+unfolding word
+byte-set a i n = go (ℕ-discrete (getD a (4 * i) 0) 0) (ℕ-discrete (getD a (4 * i + 1) 0) 0) (ℕ-discrete (getD a (4 * i + 2) 0) 0)
+  where
+    go : Dec (getD a (4 * i) 0 ≡ 0) → Dec (getD a (4 * i + 1) 0 ≡ 0) → Dec (getD a (4 * i + 2) 0 ≡ 0)
+        → (k : ℕ) × (k / 4 ≡ i) × (getD a k 0 ≢ 0)
+    go (no p) _ _ = (4 * i, omega arith, p)
+    go (yes p) (no q) _ = (4 * i + 1, omega arith, q)
+    go (yes p) (yes q) (no r) = (4 * i + 2, omega arith, r)
+    go (yes p) (yes q) (yes r) = (4 * i + 3, omega arith, λ e. n (omega arith))
 
 pub word-put : (a : List ℕ) (i v : ℕ) → 4 * i + 4 ≤ length a → WordPut a (4 * i) v (putWord a i v)
 word-put a i v h =

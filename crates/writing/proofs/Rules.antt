@@ -10,7 +10,6 @@ use native.Mathlib.Nat.{le-antisymm}
 use lib.Dec.{eqb}
 use lib.ListN.{length, take, replicate, length-replicate}
 use borrow.Author.Tests.{eq-eqb, eqb-true}
-use Rattle.format.specs.MapWord.{badWord}
 use Rattle.format.proofs.Tests.{some-zero, some-more, some-found}
 use Rattle.layout.specs.Place.{layoutOf}
 use Rattle.machine.specs.Rules.{answer}
@@ -83,10 +82,6 @@ module _ (h : Handle) (n : ℕ) (e : handleAllowed h n ≡ true) where
   pub next-fit : (l : ℕ) → l < h .figures .lanes → (r : Lane) → laneAt (h .lanes) l ≡ r → RecordFit (h .figures) l r (r .made)
   unfolding layoutOf
   next-fit l u r f = let o : LaneOk (laidOut h) r = rw (← f) (handle-ok h n e .lanes l u) in record-fit l (r .made) r u o (o .made)
-
--- rule 7, at a word that is the map word
-pub word-test : (blocks w v : ℕ) (t u : Bool) → w ≡ v → t ≡ badWord blocks w → t ≡ u → badWord blocks v ≡ u
-word-test blocks w v t u e f p = ap (λ (x : ℕ). badWord blocks x) (sym e) ∙ sym f ∙ p
 
 -- ---- what a start gives, judged as a write whose buffer fits, refused and not
 

@@ -1,5 +1,5 @@
 // Starting a write, one step of it, and a whole write.
-use format::map::bad_word;
+use format::map::word_fault;
 use format::numbers::LaneNo;
 use format::numbers::SectorNo;
 use lanes::map_block;
@@ -99,8 +99,12 @@ fn judge_write(arena: &[u8], h: Handle, lane: LaneNo, sector: SectorNo, fits: bo
     if in_flight(h, sector) {
         return Answer::SectorBusy;
     }
-    if bad_word(f.blocks, map_word(arena, f, sector)) {
+    let fault = word_fault(f.blocks, map_word(arena, f, sector));
+    if fault == 7 {
         return Answer::BadMapWord;
+    }
+    if fault == 18 {
+        return Answer::Sloppy;
     }
     Answer::Done
 }

@@ -74,6 +74,22 @@ static uint32_t cut_round(uint32_t round)
     return pending;
 }
 
+/* A last map word, or a last byte of the last lane's padding, that is sloppy is refused, and nothing is changed by that. */
+static void sloppy_ends(void)
+{
+    uint8_t *word = arena + handle.map + 4 * (uint64_t)(handle.sectors - 1), *padding = arena + handle.flog + 64 * LANES - 1;
+    uint32_t found = get32(word), mended;
+
+    CHECK(*padding == 0);
+    put32(word, 1);
+    CHECK(btt_open(arena, BTT_MAX_ARENA, work, sizeof work, &handle, &mended) == 18 && get32(word) == 1);
+    put32(word, found);
+    *padding = 1;
+    CHECK(btt_open(arena, BTT_MAX_ARENA, work, sizeof work, &handle, &mended) == 18 && *padding == 1);
+    *padding = 0;
+    open_arena(0);
+}
+
 static void try_size(uint32_t size, uint32_t sectors)
 {
     static const uint8_t first_id[16], second_id[16];
@@ -100,6 +116,7 @@ static void try_size(uint32_t size, uint32_t sectors)
         }
     }
     open_arena(0);
+    sloppy_ends();
     read_all();
 }
 

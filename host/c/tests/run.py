@@ -15,7 +15,7 @@ import library  # noqa: E402
 OUT = TOP / "target" / "host-c"
 LISTING = OUT / "instructions.txt"
 LIMIT = 60
-ANSWERS = set(range(17)) | {20}
+ANSWERS = set(range(17)) | {18, 20}
 
 EXAMPLE = """\
 opened: 60 sectors of 512 bytes, 0 mended

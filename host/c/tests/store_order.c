@@ -159,7 +159,8 @@ static void watch_refused_openings(void)
         uint32_t value, answer;
     } damage[] = {
         {52, 1, 3}, {48, 1, 4}, {40972, 0, 6}, {40972, 4, 6}, {40988, 1, 6}, {41152, 60, 6}, {36864, 0xC0000040, 7}, {37100, 0x40000040, 7},
-        {36884, 0xC0000007, 8}, {36888, 0x80000007, 8},
+        {36864, 1, 18}, {36892, 7, 18}, {37100, 0x3FFFFFFF, 18}, {40992, 1, 18}, {41212, 0x80000000, 18}, {36884, 0xC0000007, 8},
+        {36888, 0x80000007, 8},
     };
 
     for (size_t i = 0; i < COUNT(damage); i++) {
@@ -189,6 +190,7 @@ static void watch_other_calls(void)
     fresh(512, 60, 4);
     watch_steps(0, 7, 2);
     put32(arena + handle.map + 20, 0x80000040);
+    put32(arena + handle.map + 24, 6);
     tracing = 1;
     STORES_NOTHING(3, btt_make(arena, length, 512, 3, 4, buffer, 16, buffer + 16, 16));
     STORES_NOTHING(1, btt_make(arena, length, 512, 70, 4, buffer, 16, buffer + 16, 16));
@@ -196,6 +198,8 @@ static void watch_other_calls(void)
     STORES_NOTHING(0, (btt_info_block(arena, length, &offset, &bytes), 0));
     STORES_NOTHING(0, btt_read(arena, length, &handle, 7, buffer, 512));
     STORES_NOTHING(9, btt_read(arena, length, &handle, 60, buffer, 512));
+    STORES_NOTHING(18, btt_read(arena, length, &handle, 6, buffer, 512));
+    STORES_NOTHING(18, btt_start(arena, length, &handle, 1, 6));
     STORES_NOTHING(0, btt_lane_record(arena, length, &handle, 0, &record));
     STORES_NOTHING(0, btt_next_store(arena, length, &handle, 0, &offset));
     STORES_NOTHING(14, btt_step(arena, length, &handle, 1, buffer, 512));
@@ -207,6 +211,7 @@ static void watch_other_calls(void)
     STORES_NOTHING(10, btt_write(arena, length, &handle, 1, 3, buffer, 511));
     STORES_NOTHING(13, btt_write(arena, length, &handle, 1, 7, buffer, 512));
     STORES_NOTHING(7, btt_write(arena, length, &handle, 1, 5, buffer, 512));
+    STORES_NOTHING(18, btt_write(arena, length, &handle, 1, 6, buffer, 512));
     handle.lane[3].busy = 2;
     STORES_NOTHING(16, btt_write(arena, length, &handle, 1, 3, buffer, 512));
     STORES_NOTHING(16, btt_step(arena, length, &handle, 0, buffer, 512));

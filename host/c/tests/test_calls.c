@@ -24,9 +24,10 @@ static void test_read(void)
     static const struct {
         uint32_t word, answer;
     } rows[] = {
-        /* neither flag, bit 30 (Error) alone, bit 31 (Zero) alone */
-        {0x00000000, 0}, {0x00000040, 0}, {0x3FFFFFFF, 0}, {0x40000005, 15}, {0x40000009, 15}, {0x4000003F, 15}, {0x80000005, 0}, {0x80000009, 0},
-        {0x8000003F, 0}, {0x40000040, 7}, {0x80000040, 7}, {0xC0000040, 7}, {0x7FFFFFFF, 7}, {0xFFFFFFFF, 7}, {0x80000041, 7},
+        /* neither flag, of which only 0 is accepted, bit 30 (Error) alone, bit 31 (Zero) alone */
+        {0x00000000, 0}, {0x00000001, 18}, {0x00000005, 18}, {0x00000040, 18}, {0x20000000, 18}, {0x3FFFFFFF, 18}, {0x40000005, 15},
+        {0x40000009, 15}, {0x4000003F, 15}, {0x80000005, 0}, {0x80000009, 0}, {0x8000003F, 0}, {0x40000040, 7}, {0x80000040, 7}, {0xC0000040, 7},
+        {0x7FFFFFFF, 7}, {0xFFFFFFFF, 7}, {0x80000041, 7},
     };
 
     fresh_case();
@@ -206,6 +207,56 @@ static void test_bad_records(void)
     }
 }
 
+/* Lane 0 is put in flight with sector 7, whose map word then becomes this one, as does that of sector 5; and no lane's padding is zero. */
+static void sloppy_in_flight(uint32_t word)
+{
+    fresh_case();
+    CALL(0, ONLY(HANDLE), start(0, 7));
+    CALL(0, STEPPED, step(0));
+    put32(map_word(5), word);
+    put32(map_word(7), word);
+    for (uint32_t lane = 0; lane < LANES; lane++) {
+        pattern(arena + FLOG + 64 * lane + 32, 32, 12 + lane);
+    }
+}
+
+static void wrong_sloppy(void)
+{
+    CALL(10, NOTHING, read_sector(5));
+    CALL(10, NOTHING, write_sector(3, 5));
+}
+
+/* A sloppy map word is 18 in reads, starts and whole writes of its own sector; a step judges no word, and none of them judges padding. */
+static void test_sloppy(void)
+{
+    static const uint32_t words[] = {1, 5, 7, 60, 64, 0x20000000, 0x3FFFFFFF};
+
+    for (size_t i = 0; i < COUNT(words); i++) {
+        sloppy_in_flight(words[i]);
+        CALL(18, NOTHING, read_sector(5));
+        CALL(18, NOTHING, read_sector(7));
+        CALL(18, NOTHING, start(1, 5));
+        CALL(18, NOTHING, write_sector(1, 5));
+        CALL(13, NOTHING, start(1, 7));
+        CALL(13, NOTHING, write_sector(1, 7));
+        CALL(12, NOTHING, start(0, 5));
+        CALL(12, NOTHING, write_sector(0, 5));
+        CALL(11, NOTHING, start(4, 5));
+        CALL(11, NOTHING, write_sector(4, 5));
+        CALL(0, ONLY(BUFFER), read_sector(6));
+        CALL(0, STEPPED, write_sector(2, 6));
+        CALL(0, ONLY(HANDLE), start(1, 4));
+        for (int k = 1; k <= LAST; k++) {
+            CALL(0, STEPPED, step(0));
+            CALL(0, STEPPED, step(1));
+        }
+        CHECK(get32(map_word(7)) == 0xC000003C);
+        CALL(0, ONLY(BUFFER), read_sector(7));
+        CALL(18, NOTHING, read_sector(5));
+        with_wrong_buffers(wrong_sloppy);
+    }
+}
+
 static int only_lane_changed(uint32_t lane)
 {
     size_t at = record_at(lane), after = at + sizeof(struct btt_lane);
@@ -229,9 +280,23 @@ static void test_kept(void)
     }
 }
 
+/* Each answer has a text of its own, and no other number has one. */
+static void test_texts(void)
+{
+    for (uint32_t a = 0; a < 30; a++) {
+        int known = a <= BTT_BAD_HANDLE || a == BTT_SLOPPY || a == BTT_BAD_RECORD;
+
+        CHECK((strcmp(btt_answer_text(a), "not an answer") != 0) == known);
+        for (uint32_t b = 0; b < a; b++) {
+            CHECK(!known || strcmp(btt_answer_text(a), btt_answer_text(b)) != 0);
+        }
+    }
+}
+
 int main(void)
 {
-    static const test tests[] = {test_read, test_start, test_step, test_write, test_looks, test_bad_figures, test_bad_records, test_kept};
+    static const test tests[] = {test_read, test_start, test_step, test_write, test_looks, test_bad_figures, test_bad_records, test_sloppy,
+                                 test_kept, test_texts};
 
     return run("test_calls", tests, COUNT(tests));
 }

@@ -116,8 +116,18 @@ static const struct {
     {6, {{FLOG + 196, 4, BLOCKS}}}, {6, {{FLOG + 200, 4, BLOCKS}}}, {6, {{FLOG + 200, 4, BLOCKS}, {MAP, 4, 0xC0000040}}},
     {7, {{MAP, 4, 0xC0000040}}}, {7, {{MAP + 36, 4, 0x80000040}}}, {7, {{MAP + 236, 4, 0x7FFFFFFF}}},
     {7, {{MAP, 4, 0xC0000040}, {MAP + 4, 4, 0xC0000007}}},
+    {18, {{MAP + 20, 4, 0x00000005}}}, {18, {{MAP + 20, 4, 0x00000007}}}, {18, {{MAP + 20, 4, 0x3FFFFFFF}}}, {18, {{FLOG + 32, 4, 1}}},
     {8, {{MAP + 20, 4, 0xC0000007}}}, {8, {{MAP + 20, 4, 0x80000007}}}, {8, {{FLOG + 4, 4, 61}}}, {8, {{MAP + 28, 4, 0xC000003C}}},
-    {0, {{MAP + 20, 4, 0x00000007}}}, {0, {{MAP + 20, 4, 0x40000005}}}, {0, {{MAP + 20, 4, 0x80000005}}}, {0, {{FLOG + 16, 4, 0xFFFFFFFF}}},
+    {0, {{MAP + 20, 4, 0x40000005}}}, {0, {{MAP + 20, 4, 0x80000005}}}, {0, {{FLOG + 16, 4, 0xFFFFFFFF}}},
+    /* a sloppy arena with another fault: 18 comes after 1 to 7 and before 8, wherever the two faults are */
+    {3, {{52, 2, 1}, {MAP, 4, 1}}}, {4, {{48, 4, 1}, {FLOG + 63, 1, 1}}}, {6, {{FLOG + 204, 4, 0}, {MAP, 4, 1}}},
+    {6, {{FLOG + 204, 4, 4}, {FLOG + 32, 4, 1}}}, {6, {{FLOG + 12, 4, 0}, {FLOG + 255, 1, 1}}}, {7, {{MAP + 236, 4, 0x40000040}, {MAP, 4, 1}}},
+    {7, {{MAP, 4, 0xC0000040}, {MAP + 236, 4, 1}}}, {7, {{MAP + 236, 4, 0xC0000040}, {FLOG + 32, 4, 1}}},
+    {18, {{MAP + 20, 4, 0xC0000007}, {MAP, 4, 1}}}, {18, {{MAP, 4, 0xC0000007}, {MAP + 236, 4, 59}}}, {18, {{FLOG + 4, 4, 61}, {MAP + 236, 4, 1}}},
+    {18, {{MAP + 20, 4, 0x80000007}, {FLOG + 255, 1, 0x80}}}, {18, {{FLOG + 4, 4, 61}, {FLOG + 32, 1, 1}}},
+    /* bytes of no part, behind the map, after the last lane and in the info block, are not judged */
+    {0, {{MAP + 240, 4, 1}, {FLOG - 1, 1, 0xFF}}}, {0, {{FLOG + 256, 4, 1}, {FLOG + 288, 8, 1}}}, {0, {{FLOG + 319, 1, 0xFF}, {COPY - 1, 1, 1}}},
+    {0, {{120, 8, 1}, {4087, 1, 0xFF}}},
 };
 
 /* The first block has the fault and a fitting checksum, so that the copy, which is faultless, must not count. */
@@ -136,6 +146,54 @@ static void test_open_damaged(void)
             refused_opening(damaged[i].answer);
         }
     }
+}
+
+/* Each bit of the first and the last map word but its flags, and of each lane's padding; bytes behind the map and the lanes are any. */
+static void test_open_sloppy(void)
+{
+    static const uint32_t sectors[] = {0, SECTORS - 1};
+
+    fresh_case();
+    lend(WORK, BLOCKS + 9);
+    for (size_t i = 0; i < COUNT(sectors); i++) {
+        for (unsigned bit = 0; bit < 30; bit++) {
+            put32(map_word(sectors[i]), (uint32_t)1 << bit);
+            refused_opening(18);
+        }
+        put32(map_word(sectors[i]), 0);
+    }
+    for (size_t at = FLOG; at < FLOG + 64 * LANES; at++) {
+        for (unsigned bit = 0; bit < 8 && at % 64 >= 32; bit++) {
+            arena[at] = (uint8_t)(1 << bit);
+            refused_opening(18);
+            arena[at] = 0;
+        }
+    }
+    pattern(map_word(SECTORS), FLOG - MAP - 4 * SECTORS, 13);
+    pattern(arena + FLOG + 64 * LANES, COPY - FLOG - 64 * LANES, 14);
+    CALL(0, OPENED, open_arena());
+    put32(map_word(SECTORS - 1), 1);
+    lend(WORK, BLOCKS - 1);
+    refused_opening(5);
+}
+
+/* A lane that lacks only its map word is not mended where a word, be it that lane's own, or padding is sloppy. */
+static void test_sloppy_and_pending(void)
+{
+    static const struct patch rows[] = {{MAP + 28, 4, 7}, {MAP + 28, 4, 60}, {MAP + 236, 4, 1}, {FLOG + 32, 1, 1}, {FLOG + 192 + 63, 1, 1}};
+
+    fresh_case();
+    CALL(0, ONLY(HANDLE), start(2, 7));
+    for (int k = 0; k < LAST; k++) {
+        CALL(0, STEPPED, step(2));
+    }
+    for (size_t i = 0; i < COUNT(rows); i++) {
+        put_bytes(arena + rows[i].at, rows[i].width, rows[i].value);
+        refused_opening(18);
+        put_bytes(arena + rows[i].at, rows[i].width, 0);
+    }
+    CALL(0, OPENED | ONLY(ARENA), open_arena());
+    CHECK(mended() == 1 && get32(map_word(7)) == 0xC000003E);
 }
 
 static void test_open_gives(void)
@@ -187,7 +245,8 @@ static void test_cut_open(void)
 
 int main(void)
 {
-    static const test tests[] = {test_make, test_info_block, test_open_lengths, test_open_damaged, test_open_gives, test_cut_open};
+    static const test tests[] = {test_make, test_info_block, test_open_lengths, test_open_damaged, test_open_sloppy, test_sloppy_and_pending,
+                                 test_open_gives, test_cut_open};
 
     return run("test_opening", tests, COUNT(tests));
 }

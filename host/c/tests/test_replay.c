@@ -297,7 +297,8 @@ static void test_refused_openings(void)
         size_t at;
         uint32_t value, answer;
     } rows_of[] = {
-        {FLOG + 12, 0, 6}, {FLOG + 12, 4, 6}, {MAP, 0x40000040, 7}, {MAP + 4, 0xC0000002, 8},
+        {FLOG + 12, 0, 6}, {FLOG + 12, 4, 6}, {MAP, 0x40000040, 7}, {MAP, 1, 18}, {MAP + 28, 7, 18}, {MAP + 236, 0x3FFFFFFF, 18},
+        {FLOG + 32, 1, 18}, {FLOG + 252, 0x80000000, 18}, {MAP + 4, 0xC0000002, 8},
     };
     static const size_t logs[] = {BTT_MAX_LOG + 1, 8, 0};
 

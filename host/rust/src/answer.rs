@@ -50,13 +50,15 @@ pub enum Answer {
     BadSector = 15,
     /// 16: the handle breaks a figure, has a record out of range, or does not match the arena's length.
     BadHandle = 16,
+    /// 18: a map word with neither bit 31 nor bit 30 is not 0, or the padding of a lane is not zero.
+    Sloppy = 18,
     /// 20: a record of a run log is short, has another length than its kind, or is of no known kind; or the log is too long.
     BadRecord = 20,
 }
 
 impl Answer {
     /// All the answers, in the order of their numbers.
-    pub const ALL: [Answer; 17] = [
+    pub const ALL: [Answer; 18] = [
         Answer::WrongLength,
         Answer::NoInfoBlock,
         Answer::ForbiddenFigure,
@@ -73,10 +75,11 @@ impl Answer {
         Answer::LaneIdle,
         Answer::BadSector,
         Answer::BadHandle,
+        Answer::Sloppy,
         Answer::BadRecord,
     ];
 
-    /// The answer's number in the library's table, 1 to 16 or 20.
+    /// The answer's number in the library's table, 1 to 16, 18 or 20.
     pub fn number(self) -> u32 {
         self as u32
     }
@@ -91,7 +94,7 @@ impl Answer {
         match (number, Answer::from_number(number)) {
             (0, _) => Ok(()),
             (_, Some(answer)) => Err(answer),
-            (_, None) => unreachable!("the library answers 0 to 16 or 20, not {number}"),
+            (_, None) => unreachable!("the library answers 0 to 16, 18 or 20, not {number}"),
         }
     }
 }
@@ -120,6 +123,7 @@ impl fmt::Display for Answer {
             Answer::LaneIdle => "the lane has no write in flight to go on with",
             Answer::BadSector => "the sector is marked bad, and cannot be read until it is written",
             Answer::BadHandle => "the handle does not belong to an arena of this length, or is damaged",
+            Answer::Sloppy => "the arena is sloppy: a map word that should be zero is not, or the padding of a lane in the flog is not zero",
             Answer::BadRecord => {
                 "the log has a record that is short, of another length than its kind's or of no known kind, or is longer than 8,192 bytes"
             }
@@ -135,14 +139,14 @@ mod tests {
 
     #[test]
     fn numbers_go_both_ways() {
-        for (answer, number) in Answer::ALL.into_iter().zip((1..=16).chain([20])) {
+        for (answer, number) in Answer::ALL.into_iter().zip((1..=16).chain([18, 20])) {
             assert_eq!(answer.number(), number);
             assert_eq!(Answer::from_number(answer.number()), Some(answer));
             assert_eq!(Answer::outcome(answer.number()), Err(answer));
             assert!(answer.to_string().len() > 20);
         }
         assert_eq!(Answer::from_number(0), None);
-        assert!([17, 18, 19, 21, u32::MAX].into_iter().all(|number| Answer::from_number(number).is_none()));
+        assert!([17, 19, 21, u32::MAX].into_iter().all(|number| Answer::from_number(number).is_none()));
         assert_eq!(Answer::outcome(0), Ok(()));
     }
 }

@@ -111,9 +111,10 @@ impl<'a> Arena<'a> {
     /// every arena. What it holds does not matter. Unless the answer is one of 1 to 5, as many of its bytes as there are blocks are 0
     /// afterwards; the rest is unchanged.
     ///
-    /// Answers 1 to 8, the first that applies: [`WrongLength`](Answer::WrongLength), [`NoInfoBlock`](Answer::NoInfoBlock),
+    /// Answers 1 to 7, 18 and 8, the first that applies: [`WrongLength`](Answer::WrongLength), [`NoInfoBlock`](Answer::NoInfoBlock),
     /// [`ForbiddenFigure`](Answer::ForbiddenFigure), [`FlagsSet`](Answer::FlagsSet), [`ShortWorkBuffer`](Answer::ShortWorkBuffer),
-    /// [`LostLane`](Answer::LostLane), [`BadMapWord`](Answer::BadMapWord), [`NotValid`](Answer::NotValid).
+    /// [`LostLane`](Answer::LostLane), [`BadMapWord`](Answer::BadMapWord), [`Sloppy`](Answer::Sloppy) (of all map words and all lanes),
+    /// [`NotValid`](Answer::NotValid).
     ///
     /// ```
     /// use btt::{AlignedBytes, Answer, Arena};
@@ -191,7 +192,7 @@ impl<'a> Arena<'a> {
     ///
     /// Answers [`BadHandle`](Answer::BadHandle), [`NoSuchLane`](Answer::NoSuchLane), [`LaneBusy`](Answer::LaneBusy),
     /// [`NoSuchSector`](Answer::NoSuchSector), [`WrongBuffer`](Answer::WrongBuffer), [`SectorBusy`](Answer::SectorBusy),
-    /// [`BadMapWord`](Answer::BadMapWord), the first that applies.
+    /// [`BadMapWord`](Answer::BadMapWord) and [`Sloppy`](Answer::Sloppy) (of that sector's word), the first that applies.
     pub fn write(&mut self, handle: &mut Handle, lane: u32, sector: u32, buffer: &[u8]) -> Result<(), Answer> {
         let length = self.bytes.len();
         // SAFETY: as in `step`.

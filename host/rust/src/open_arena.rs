@@ -40,7 +40,7 @@ pub struct OpenArena<'a> {
 }
 
 impl<'a> OpenArena<'a> {
-    /// Opens an arena with a work buffer of its own. Answers 1 to 4 and 6 to 8, as [`Arena::open`] does.
+    /// Opens an arena with a work buffer of its own. Answers 1 to 4, 6, 7, 18 and 8, as [`Arena::open`] does.
     pub fn open(mut arena: Arena<'a>) -> Result<OpenArena<'a>, Answer> {
         let mut work = vec![0; MAX_BLOCKS];
         let Opened { handle, mended } = arena.open(&mut work)?;

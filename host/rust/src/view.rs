@@ -92,7 +92,8 @@ impl<'a> ArenaRef<'a> {
     /// written or its map word has bit 31 (Zero) alone. A write in flight is not seen until its map word, its last store, is stored.
     ///
     /// Answers [`BadHandle`](Answer::BadHandle), [`NoSuchSector`](Answer::NoSuchSector), [`WrongBuffer`](Answer::WrongBuffer),
-    /// [`BadMapWord`](Answer::BadMapWord) (of that sector's word), [`BadSector`](Answer::BadSector), the first that applies.
+    /// [`BadMapWord`](Answer::BadMapWord) and [`Sloppy`](Answer::Sloppy) (of that sector's word), [`BadSector`](Answer::BadSector), the
+    /// first that applies.
     pub fn read(self, handle: &Handle, sector: u32, buffer: &mut [u8]) -> Result<(), Answer> {
         // SAFETY: the pointers are of two slices with their lengths and of a handle; the buffer is borrowed alone, so it lies apart
         // from the others; the arena's address was looked at by `new`.
@@ -104,8 +105,8 @@ impl<'a> ArenaRef<'a> {
     /// Starts a write to a sector on an idle lane. The arena is not changed; the lane's record remembers the write.
     ///
     /// Answers [`BadHandle`](Answer::BadHandle), [`NoSuchLane`](Answer::NoSuchLane), [`LaneBusy`](Answer::LaneBusy),
-    /// [`NoSuchSector`](Answer::NoSuchSector), [`SectorBusy`](Answer::SectorBusy), [`BadMapWord`](Answer::BadMapWord) (of that
-    /// sector's word), the first that applies.
+    /// [`NoSuchSector`](Answer::NoSuchSector), [`SectorBusy`](Answer::SectorBusy), [`BadMapWord`](Answer::BadMapWord) and
+    /// [`Sloppy`](Answer::Sloppy) (of that sector's word), the first that applies.
     pub fn start(self, handle: &mut Handle, lane: u32, sector: u32) -> Result<(), Answer> {
         // SAFETY: the pointers are of a slice with its length and of a handle that is borrowed alone; the arena's address was looked
         // at by `new`.

@@ -160,6 +160,8 @@ fn opening_is_refused_with_each_number() {
     assert_eq!(refused(|_| (), 49_152, 0), 5);
     assert_eq!(refused(|memory| put_word(memory, FLOG + 12, 4), 49_152, 70), 6);
     assert_eq!(refused(|memory| put_word(memory, MAP, 0xC000_0040), 49_152, 70), 7);
+    assert_eq!(refused(|memory| put_word(memory, MAP, 0x0000_0001), 49_152, 70), 18);
+    assert_eq!(refused(|memory| put_word(memory, FLOG + 32, 1), 49_152, 70), 18);
     assert_eq!(refused(|memory| put_word(memory, MAP, 0xC000_0001), 49_152, 70), 8);
 }
 
@@ -176,6 +178,11 @@ fn a_map_word_is_read_by_its_flags() {
         let mut buffer = [3; 512];
         assert_eq!(arena.read(&handle, 5, &mut buffer).map(|()| buffer), read, "{word:#010x}");
     }
+    let (_, handle) = opened(&mut memory);
+    put_word(&mut memory, MAP + 4 * 7, 0x0000_0005);
+    let mut arena = Arena::new(&mut memory).unwrap();
+    assert_eq!(arena.read(&handle, 7, &mut [3; 512]), Err(Answer::Sloppy), "neither bit, and not 0");
+    assert_eq!(arena.open(&mut [0; 64]), Err(Answer::Sloppy));
 }
 
 #[test]
@@ -209,9 +216,13 @@ fn reads_and_writes_are_refused_with_each_number() {
     assert_eq!(arena.read(&handle, 5, &mut buffer), Ok(()));
     let bytes = arena.into_bytes();
     put_word(bytes, MAP, 0xC000_0040);
-    let arena = Arena::new(bytes).unwrap();
-    assert_eq!(arena.read(&handle, 0, &mut buffer), Err(Answer::BadMapWord));
-    assert_eq!(arena.start(&mut handle, 0, 0), Err(Answer::BadMapWord));
+    put_word(bytes, MAP + 4, 0x0000_0001);
+    let mut arena = Arena::new(bytes).unwrap();
+    for (sector, answer) in [(0, Answer::BadMapWord), (1, Answer::Sloppy)] {
+        assert_eq!(arena.read(&handle, sector, &mut buffer), Err(answer));
+        assert_eq!(arena.start(&mut handle, 0, sector), Err(answer));
+        assert_eq!(arena.write(&mut handle, 0, sector, &buffer), Err(answer));
+    }
 }
 
 #[test]

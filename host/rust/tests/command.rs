@@ -169,7 +169,7 @@ fn a_report_is_that_of_the_program() {
     fs::write(place.path("fresh"), FRESH).unwrap();
     assert_eq!(place.done("report fresh", &[]), REPORT.as_bytes());
     let mut chance = Chance::new(41);
-    let mut answers = [0; 9];
+    let mut answers = [0; 19];
     for _ in 0..150 {
         let mut arena = arenas::valid(&mut chance);
         if chance.once_in(2) {
@@ -259,6 +259,33 @@ fn refused_reads_and_writes_change_nothing() {
     }
     for line in ["report nothing", "read nothing 0", "write nothing 0", "dump .", "report ."] {
         assert_eq!(place.refused(line, &[]).0, 3, "{line}");
+    }
+}
+
+#[test]
+fn a_sloppy_arena_is_refused_and_left() {
+    let place = Place::new("sloppy");
+    let mut arena = made(GEOMETRY);
+    let mut handle = plain::open(&mut arena, &mut [0; 64]).unwrap().handle;
+    plain::start(&arena, &mut handle, 2, 11).unwrap();
+    (0..132).for_each(|_| plain::step(&mut arena, &mut handle, 2, &[7; 512]).unwrap());
+    fs::write(place.path("log"), []).unwrap();
+    for (at, value) in [(36_864, 1), (36_864 + 4 * 59, 59), (40_960 + 32, 1), (40_960 + 252, 1 << 31)] {
+        let mut sloppy = arena.clone();
+        put_word(&mut sloppy, at, value);
+        fs::write(place.path("arena"), &sloppy[..]).unwrap();
+        for (line, told) in [
+            ("report arena", "refused 18\n"),
+            ("replay arena log", "refused 18\n"),
+            ("dump arena", "length 49152\ninfo block at 0\nrefused 18\n"),
+            ("read arena 5", ""),
+            ("write arena 5", ""),
+        ] {
+            let (status, out, said) = place.refused(line, &[1; 512]);
+            assert_eq!((status, out.as_str()), (1, told), "{line}");
+            assert!(said.starts_with("btt: refused 18: the arena is sloppy: "), "{said}");
+            assert!(fs::read(place.path("arena")).unwrap() == sloppy[..], "nothing is mended either");
+        }
     }
 }
 

@@ -79,7 +79,7 @@ fn every_word_of_a_handle_is_judged() {
 #[test]
 fn several_words_are_judged_together() {
     let mut chance = Chance::new(2);
-    let mut answers = [0; 17];
+    let mut answers = [0; 19];
     for round in 0..20 {
         let lanes = 1 + chance.below(16) as u32;
         let geometry = Geometry { size: 512, sectors: lanes + chance.below(9) as u32, lanes };

@@ -52,6 +52,8 @@ fn a_refused_opening_gives_zeroes_and_no_count() {
     changes.push((5, vec![], 63));
     changes.push((6, vec![(40_972, 0)], 64));
     changes.push((7, vec![(36_867, 0xFF)], 64));
+    changes.push((18, vec![(36_864, 1)], 64));
+    changes.push((18, vec![(40_992, 1)], 64));
     changes.push((8, vec![(36_864, 1), (36_867, 0xC0)], 64));
     for (number, places, room) in changes {
         let mut arena = arena.clone();

@@ -2,7 +2,7 @@
 mod support;
 
 use btt::{Answer, Arena, OpenArena, Replay, MAX_BLOCKS, MAX_LOG, MAX_RECORDS};
-use plain::word;
+use plain::{put_word, word};
 use std::fs;
 use support::both::Both;
 use support::chance::Chance;
@@ -48,7 +48,7 @@ fn logs_are_answered_alike() {
 #[test]
 fn damaged_arenas_are_refused_alike() {
     let mut chance = Chance::new(62);
-    let mut answers = [0; 9];
+    let mut answers = [0; 19];
     let log = [write(0, 0, 132), cut(), start(1, 1), vec![0]].concat();
     for _ in 0..1500 {
         let mut arena = arenas::valid(&mut chance);
@@ -56,8 +56,22 @@ fn damaged_arenas_are_refused_alike() {
         let replay = Both::new(&arena).replay(&log, &chance.bytes(128), &chance.bytes(200));
         answers[support::number(&replay) as usize] += 1;
     }
-    let came = |number: usize| number == 5 || answers[number] > 5;
-    assert!((0..9).all(came), "every answer came: {answers:?}");
+    assert!([0, 1, 2, 3, 4, 6, 7, 8, 18].into_iter().all(|number| answers[number] > 5), "every answer came: {answers:?}");
+}
+
+#[test]
+fn a_sloppy_arena_is_refused_and_left() {
+    let pending = replayed(&write(2, 11, 132)).1.arena;
+    for log in [vec![], [start(0, 7), step(0), cut()].concat(), cut().repeat(MAX_RECORDS + 1)] {
+        // A word of a sector that the log does not name, the word of the pending lane's sector, and padding.
+        for (at, value) in [(36_864 + 4 * 59, 1), (36_864 + 4 * 11, 11), (40_960 + 32, 1), (40_960 + 252, 1 << 31)] {
+            let mut arena = pending.clone();
+            put_word(&mut arena, at, value);
+            let mut both = Both::new(&arena);
+            assert_eq!(both.replay(&log, &[9; 70], &[9; 5]), Err(Answer::Sloppy));
+            assert!(both.arena == arena, "nothing is mended and nothing ran");
+        }
+    }
 }
 
 #[test]

@@ -1,14 +1,18 @@
--- `cases::p_cases` meets its contract: the values of cases 1 to 5 are computed, and cases 6 to 8 are proved in `Pending`.
+-- `cases::p_cases` meets its contract: the values of cases 1 to 5 are computed but for the refused word of case 3, which is exhibited, and cases 6
+-- to 8 are proved in `Pending`.
 use mathlib.Core.Path.{refl}
 use mathlib.Core.List.{List, [], _∷_, _++_}
+use Prim.Native.Nat.{ℕ}
 use native.Mathlib.Omega.{arith}
+use lib.ListN.{replicate, length-replicate}
 use Rattle.fletcher.specs.Fletcher.{added, addedAll, fletcher64}
 use Rattle.format.specs.Sequence.{successor, newer}
 use Rattle.format.specs.MapWord.{blockOf}
 use Rattle.layout.specs.Figures.{freshFigures, freshLength}
+use Rattle.machine.proofs.exhibit.Run.{exhibited}
 use Rattle.cases.specs.Worked.{Worked, AllDue}
 use Rattle.cases.specs.Pending.{case6, case7, case8}
-use Rattle.cases.specs.Table.{case1, case2, case3, case3-bits, case4, case4-turns, case5, table}
+use Rattle.cases.specs.Table.{case1, case2, case3, case3-refused, case3-bits, case4, case4-turns, case5, table}
 use Rattle.cases.proofs.Pending.{cases-6-and-7, case-8}
 use Rattle.cases.proofs.p_cases.Statement.{statement}
 use Rattle.cases.proofs.p_cases.Tie as tie
@@ -17,20 +21,28 @@ append : (xs : List Worked) (ys : List Worked) → AllDue xs → AllDue ys → A
 append [] ys p q = q
 append (x ∷ xs) ys p q = (p .0, append xs ys (p .1) q)
 
--- cases 1 to 5 are computed
+-- cases 1 to 5 are computed, all but the refused word
 computed : AllDue (case1 ++ (case2 ++ (case3 ++ (case3-bits ++ (case4 ++ (case4-turns ++ case5))))))
 unfolding added addedAll fletcher64 successor newer blockOf freshFigures freshLength
-computed = (refl, (refl, (refl, (refl, (refl, (refl, (refl, (refl, (refl, (refl, (refl, (refl, (refl, (refl, (refl, (refl, (refl, (refl, (refl, (refl, (refl, (refl, (refl, (refl, (refl, (refl, (refl, (refl, (refl, (refl, (refl, (refl, (refl, (refl, (refl, (refl, (refl, (refl, (refl, (refl, tt))))))))))))))))))))))))))))))))))))))))
+computed = (refl, (refl, (refl, (refl, (refl, (refl, (refl, (refl, (refl, (refl, (refl, (refl, (refl, (refl, (refl, (refl, (refl, (refl, (refl, (refl, (refl, (refl, (refl, (refl, (refl, (refl, (refl, (refl, (refl, (refl, (refl, (refl, (refl, (refl, (refl, (refl, (refl, (refl, (refl, (refl, (refl, (refl, (refl, (refl, tt))))))))))))))))))))))))))))))))))))))))))))
+
+-- case 3's refused word is that of the exhibited arena
+refused : AllDue case3-refused
+refused =
+    let size = length-replicate {A = ℕ} 512 0 in
+    (exhibited .sloppy .word, (exhibited .sloppy .read (replicate 512 0) size, (exhibited .sloppy .start, (exhibited .sloppy .write (replicate 512 0) size, tt))))
 
 all-due : AllDue table
 unfolding table newer successor
 all-due =
     let p = cases-6-and-7 1 (omega arith) refl in
     let q = cases-6-and-7 0 (omega arith) refl in
-    append (case1 ++ (case2 ++ (case3 ++ (case3-bits ++ (case4 ++ (case4-turns ++ case5)))))) (case6 1 ++ (case6 0 ++ (case7 1 ++ (case7 0 ++ case8)))) computed
+    append (case1 ++ (case2 ++ (case3 ++ (case3-bits ++ (case4 ++ (case4-turns ++ case5))))))
+    (case3-refused ++ (case6 1 ++ (case6 0 ++ (case7 1 ++ (case7 0 ++ case8))))) computed
+    (append case3-refused (case6 1 ++ (case6 0 ++ (case7 1 ++ (case7 0 ++ case8)))) refused
     (append (case6 1) (case6 0 ++ (case7 1 ++ (case7 0 ++ case8))) (p .0)
     (append (case6 0) (case7 1 ++ (case7 0 ++ case8)) (q .0)
-    (append (case7 1) (case7 0 ++ case8) (p .1) (append (case7 0) case8 (q .1) case-8))))
+    (append (case7 1) (case7 0 ++ case8) (p .1) (append (case7 0) case8 (q .1) case-8)))))
 
 returns : tie.Need-returns
 returns c = all-due

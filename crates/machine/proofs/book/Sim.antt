@@ -29,6 +29,7 @@ use Rattle.machine.specs.calls.Order.{
   laneIdle,
   sectorBusy,
   badMapWord,
+  sloppyMapWord,
   badSector,
   number,
   order,
@@ -50,7 +51,7 @@ use Rattle.machine.specs.models.Book.{
   bookReply,
 }
 use Rattle.machine.specs.claims.DemandThree.{Differ}
-use Rattle.machine.proofs.invariant.Held.{held-allowed, held-word, lanes-in, sectors-in, lanes-out}
+use Rattle.machine.proofs.invariant.Held.{held-allowed, held-word, held-clean, lanes-in, sectors-in, lanes-out}
 use Rattle.machine.proofs.invariant.Histories.{HeldIn}
 use Rattle.machine.proofs.book.Entries.{any-some, any-false}
 use Rattle.machine.proofs.rules.Rules.{alike}
@@ -161,6 +162,7 @@ module _ (τ : Told) (told : ToldOk τ) where
     agree (laneIdle l) u = ap not (flies l u)
     agree (sectorBusy s) u = rw (z .figures) (flights s)
     agree (badMapWord s) u = held-word τ told (y .arena) (y .handle) (z .held) s (rw (z .figures) u)
+    agree (sloppyMapWord s) u = held-clean τ told (y .arena) (y .handle) (z .held) s (rw (z .figures) u)
     agree (badSector s) u = bad-is s u
 
     pub number-is : (c : Call) → callNumber (y .arena) (y .handle) c ≡ bookNumber τ a b c

@@ -5,7 +5,7 @@ use mathlib.Core.List.{List}
 use Prim.Native.Nat.{ℕ, _<_}
 use lib.ListN.{length}
 use borrow.Author.Tests.{eqb-true, leb-false, not-false}
-use Rattle.format.specs.MapWord.{badWord}
+use Rattle.format.specs.MapWord.{badWord, sloppyWord}
 use Rattle.machine.specs.Rules.{answer}
 use Rattle.machine.specs.state.Lane.{isBusy}
 use Rattle.machine.specs.state.Handle.{Handle, laneAt, laidOut, handleAllowed}
@@ -20,6 +20,7 @@ module _ (a : List ℕ) (h : Handle) where
     pub sector : s < h .figures .sectors
     pub size : length buffer ≡ h .figures .size
     pub word : badWord (h .figures .blocks) (mapWord (laidOut h) a s) ≡ false
+    pub clean : sloppyWord (mapWord (laidOut h) a s) ≡ false
     pub not-bad : tests a h (badSector s) ≡ false
 
   pub read-found : (s : ℕ) (buffer : List ℕ) → callNumber a h (read s buffer) ≡ 0 → ReadFound s buffer
@@ -30,7 +31,8 @@ module _ (a : List ℕ) (h : Handle) where
         sector = leb-false _ _ (p .1 .0);
         size = eqb-true _ _ (not-false _ (p .1 .1 .0));
         word = p .1 .1 .1 .0;
-        not-bad = p .1 .1 .1 .1 .0;
+        clean = p .1 .1 .1 .1 .0;
+        not-bad = p .1 .1 .1 .1 .1 .0;
       }
 
   pub record StartFound (l s : ℕ) : Type 0 where
@@ -40,6 +42,7 @@ module _ (a : List ℕ) (h : Handle) where
     pub sector : s < h .figures .sectors
     pub free : inFlight (h .lanes) (h .figures .lanes) s ≡ false
     pub word : badWord (h .figures .blocks) (mapWord (laidOut h) a s) ≡ false
+    pub clean : sloppyWord (mapWord (laidOut h) a s) ≡ false
 
   pub start-found : (l s : ℕ) → callNumber a h (start l s) ≡ 0 → StartFound l s
   start-found l s e =
@@ -51,6 +54,7 @@ module _ (a : List ℕ) (h : Handle) where
         sector = leb-false _ _ (p .1 .1 .1 .0);
         free = p .1 .1 .1 .1 .0;
         word = p .1 .1 .1 .1 .1 .0;
+        clean = p .1 .1 .1 .1 .1 .1 .0;
       }
 
   pub record StepFound (l : ℕ) (buffer : List ℕ) : Type 0 where

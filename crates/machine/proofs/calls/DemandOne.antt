@@ -14,7 +14,7 @@ use Rattle.layout.specs.Figures.{lengthAllowed}
 use Rattle.infoblock.specs.Info.{infoBlockOf, infoAllowed, flagsAllowed}
 use Rattle.infoblock.proofs.InfoBlock.{info-in, counting-main, counting-copy}
 use Rattle.machine.specs.Rules.{answer}
-use Rattle.machine.specs.calls.Opening.{layoutIn, openNumber, openOf, cutOpenOf, lanesLost, wordBad, unsettled}
+use Rattle.machine.specs.calls.Opening.{layoutIn, openNumber, openOf, cutOpenOf, lanesLost, wordBad, sloppy, unsettled}
 use Rattle.layout.specs.Claims.{Length}
 use Rattle.infoblock.specs.Claims.{Sound}
 use Rattle.machine.specs.claims.DemandOne.{InfoBlockShown, CutOpening, DemandOne}
@@ -31,16 +31,17 @@ info-out : (a : List ℕ) → lengthAllowed (length a) ≡ false → infoBlockOf
 unfolding infoBlockOf
 info-out a e = rw e
 
--- rules 3 to 8 give neither 1 nor 2
-later : (t3 t4 t5 t6 t7 t8 : Bool)
-    → (let n : ℕ = cond t3 3 (cond t4 4 (cond t5 5 (cond t6 6 (cond t7 7 (cond t8 8 0))))) in (n ≡ 1) ⊎ (n ≡ 2)) → ⊥
-later true t4 t5 t6 t7 t8 = ⊎-elim (λ e. omega arith) (λ e. omega arith)
-later false true t5 t6 t7 t8 = ⊎-elim (λ e. omega arith) (λ e. omega arith)
-later false false true t6 t7 t8 = ⊎-elim (λ e. omega arith) (λ e. omega arith)
-later false false false true t7 t8 = ⊎-elim (λ e. omega arith) (λ e. omega arith)
-later false false false false true t8 = ⊎-elim (λ e. omega arith) (λ e. omega arith)
-later false false false false false true = ⊎-elim (λ e. omega arith) (λ e. omega arith)
-later false false false false false false = ⊎-elim (λ e. omega arith) (λ e. omega arith)
+-- rules 3 to 8 and 18 give neither 1 nor 2
+later : (t3 t4 t5 t6 t7 t18 t8 : Bool)
+    → (let n : ℕ = cond t3 3 (cond t4 4 (cond t5 5 (cond t6 6 (cond t7 7 (cond t18 18 (cond t8 8 0)))))) in (n ≡ 1) ⊎ (n ≡ 2)) → ⊥
+later true t4 t5 t6 t7 t18 t8 = ⊎-elim (λ e. omega arith) (λ e. omega arith)
+later false true t5 t6 t7 t18 t8 = ⊎-elim (λ e. omega arith) (λ e. omega arith)
+later false false true t6 t7 t18 t8 = ⊎-elim (λ e. omega arith) (λ e. omega arith)
+later false false false true t7 t18 t8 = ⊎-elim (λ e. omega arith) (λ e. omega arith)
+later false false false false true t18 t8 = ⊎-elim (λ e. omega arith) (λ e. omega arith)
+later false false false false false true t8 = ⊎-elim (λ e. omega arith) (λ e. omega arith)
+later false false false false false false true = ⊎-elim (λ e. omega arith) (λ e. omega arith)
+later false false false false false false false = ⊎-elim (λ e. omega arith) (λ e. omega arith)
 
 module _ (a : List ℕ) (small : Small a) where
   nothing : (Length (length a) → ⊥) ⊎ ((Sound (take 4096 a) → ⊥) × (Sound (drop (length a - 4096) a) → ⊥)) → infoBlockOf a ≡ []
@@ -53,7 +54,7 @@ module _ (a : List ℕ) (small : Small a) where
       (λ e. by-bool (eqb (length (infoBlockOf a)) 0) (infoBlockOf a ≡ [])
       (λ z. nothing (inr (none-sound a small e z)))
       (λ z. absurd (later (not (infoAllowed alone (infoBlockOf a) (length a))) (not (flagsAllowed (infoBlockOf a))) (ltb (length work) ((layoutIn alone a) .I))
-      (lanesLost (layoutIn alone a) a) (wordBad (layoutIn alone a) a) (unsettled (layoutIn alone a) a) (rw (e, z) at c))))
+      (lanesLost (layoutIn alone a) a) (wordBad (layoutIn alone a) a) (sloppy (layoutIn alone a) a) (unsettled (layoutIn alone a) a) (rw (e, z) at c))))
       (info-out a)
 
   only : (work : List ℕ) → infoBlockOf a ≡ [] → ((openOf alone a work) .number ≡ 1) ⊎ ((openOf alone a work) .number ≡ 2)

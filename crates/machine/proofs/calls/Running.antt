@@ -39,6 +39,7 @@ use Rattle.machine.specs.calls.Order.{
   laneIdle,
   sectorBusy,
   badMapWord,
+  sloppyMapWord,
   badSector,
   number,
   order,
@@ -161,6 +162,7 @@ module _ (a : List ℕ) (h : Handle) where
   tells (laneIdle l) = (λ e. idle-word (laneAt (h .lanes) l) (not-true _ e), λ e. rw (word-idle (laneAt (h .lanes) l) e))
   tells (sectorBusy s) = (flight-ok _ _ s, ok-flight _ _ s)
   tells (badMapWord s) = (bad-ok _ _, ok-bad _ _)
+  tells (sloppyMapWord s) = (map-words .rule-18 _, map-words .rule-18-back _)
   tells (badSector s) = (map-words .rule-15 _, map-words .rule-15-back _)
 
   -- along any order the first rule that holds gives the number

@@ -15,7 +15,7 @@ use Rattle.words.specs.Word.{word, putWord}
 use Rattle.words.specs.Bytes.{Small, byteWord}
 use Rattle.words.proofs.Laws.{length-putWord, getD-putWord-other, word-putWord-same}
 use Rattle.format.specs.MapWord.{blockOf}
-use Rattle.format.specs.Claims.{NeitherBit, Bit31Alone, BothBits, namedBlock}
+use Rattle.format.specs.Claims.{Bit31Alone, BothBits, namedBlock}
 use Rattle.format.proofs.InNumbers.{map-words}
 use Rattle.layout.specs.Figures.{Allowed}
 use Rattle.layout.specs.Place.{Layout, LayoutOk, layoutOf, at, inData}
@@ -196,8 +196,9 @@ module _ (a : List ℕ) (h : Handle) where
       let w = mapWord (laidOut h) a s in
       let m : w ≡ mapWordIn (h .figures) a s = map-word (h .distance) (h .figures) (length a) (k .figures) a s in
       record {
-        unwritten = λ u. let v : NeitherBit w = rw m u in rw (e, map-words .flags-00 s w v .reads);
+        unwritten = λ u. let v : w ≡ 0 = m ∙ u in rw (e, v);
         zeroed = λ u. let v : Bit31Alone w = rw m u in rw (e, map-words .flags-10 s w v .reads);
+        not-sloppy = λ u. true-false (sym (map-words .rule-18-back w (rw m u)) ∙ read-found a h s buffer e .clean);
         not-bad = λ u. true-false (sym (map-words .rule-15-back w (rw m u)) ∙ read-found a h s buffer e .not-bad);
         bytes = λ u.
             let v : BothBits w = rw m u in

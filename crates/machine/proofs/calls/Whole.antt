@@ -122,7 +122,7 @@ begun-ok a h l s found =
     record {
       busy = inr refl;
       block = o .block;
-      old = block-in (h .figures .blocks) s (mapWord (laidOut h) a s) (omega (arith, ok .blocks, found .sector)) (found .word);
+      old = block-in (h .figures .blocks) s (mapWord (laidOut h) a s) (omega (arith, ok .blocks, found .sector)) (found .word) (found .clean);
       half = o .half;
       sequence-least = o .sequence-least;
       sequence-most = o .sequence-most;

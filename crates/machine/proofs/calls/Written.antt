@@ -48,6 +48,7 @@ use Rattle.machine.proofs.invariant.Asides.{latest-state}
 use Rattle.machine.proofs.invariant.Histories.{HeldIn, held-small, held-figures, held-event, alike-event, opening-cases}
 use Rattle.machine.proofs.making.Making.{making-claim}
 use Rattle.machine.proofs.row.Zeroes.{made-held, made-figures}
+use Rattle.machine.proofs.row.StaysClean.{stays-clean}
 
 -- one after the other
 kept-then : (blocks x y z : ℕ) → KeptOrMapped blocks x y → KeptOrMapped blocks y z → KeptOrMapped blocks x z
@@ -217,4 +218,5 @@ written-words = record {
   cut-opening = cut-kept alone told-alone;
   making = λ o a small first second e s u. making-claim .made o a small first second e .map s u;
   ours = ours;
+  stays-clean = stays-clean;
 }

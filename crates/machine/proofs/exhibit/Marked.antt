@@ -70,14 +70,14 @@ module _ (a work : List ℕ) (small : Small a) (opens : (openOf alone a work) .n
 
   good-5 : Good alone (zeroed-5 a) 16 f lanes
   unfolding blockOf
-  good-5 = word-good alone told-alone a 16 f lanes good 5 0x80000005 (in-map 5 (omega arith)) (omega arith) (rw (word-0 5 (omega arith)))
+  good-5 = word-good alone told-alone a 16 f lanes good 5 0x80000005 (in-map 5 (omega arith)) (omega arith) (rw (word-0 5 (omega arith))) refl
 
   was-6 : mapWord g (zeroed-5 a) 6 ≡ 0
   was-6 = word-other g (good .inv .ok) a 5 0x80000005 (in-map 5 (omega arith)) 6 (in-map 6 (omega arith)) (λ e. omega arith) ∙ word-0 6 (omega arith)
 
   good-6 : Good alone (marked a) 16 f lanes
   unfolding blockOf
-  good-6 = word-good alone told-alone (zeroed-5 a) 16 f lanes good-5 6 0x40000006 (in-map 6 (omega arith)) (omega arith) (rw was-6)
+  good-6 = word-good alone told-alone (zeroed-5 a) 16 f lanes good-5 6 0x40000006 (in-map 6 (omega arith)) (omega arith) (rw was-6) refl
 
   -- ---- it opens
 

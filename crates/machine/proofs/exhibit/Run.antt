@@ -58,6 +58,7 @@ use Rattle.machine.proofs.book.AfterCut.{after-cut}
 use Rattle.machine.proofs.exhibit.Premise.{Goes, orderly-premise, orderly-sim}
 use Rattle.machine.proofs.exhibit.LentBytes.{LendsIn, lent-one}
 use Rattle.machine.proofs.exhibit.Marked.{marked-is, read-by-flags}
+use Rattle.machine.proofs.exhibit.Sloppy.{refused-sloppy}
 use Rattle.machine.proofs.exhibit.Book.{together, further, onward, both, goes-finished, goes-together, then-refused, goes-all, one-last}
 use Rattle.layout.specs.Told.{alone}
 use Rattle.machine.proofs.opening.Described.{told-alone}
@@ -290,4 +291,5 @@ exhibited = record {
   mended = mended exhibitFound exhibitWork exhibitBytes (replicate 512 0) given;
   marked = rw (marked-is exhibitFound)
       (read-by-flags exhibitFound exhibitWork (given .small) (given .opens) (given .same) (given .figures) (given .unwritten) (given .room));
+  sloppy = refused-sloppy exhibitFound exhibitWork (given .small) (given .opens) (given .same) (given .figures) (given .unwritten) (given .room);
 }

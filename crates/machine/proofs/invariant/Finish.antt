@@ -12,6 +12,7 @@ use Rattle.format.specs.Sequence.{successor}
 use Rattle.format.specs.MapWord.{mappedTo}
 use Rattle.format.proofs.Tests.{true-false}
 use Rattle.format.proofs.Sequences.{successor-in}
+use Rattle.format.proofs.MapWord.{mapped-clean}
 use Rattle.machine.specs.declared.lane.Lane.{Lane}
 use Rattle.machine.specs.state.Lane.{finishedLane, isBusy}
 use Rattle.machine.specs.state.Handle.{laneAt}
@@ -20,6 +21,7 @@ use Rattle.machine.specs.state.Flog.{mapBlock, flogWord, newerHalf}
 use Rattle.machine.proofs.stores.Once.{swap-once}
 use Rattle.machine.proofs.stores.Stores.{stored-arena}
 use Rattle.machine.proofs.stores.MapStores.{map-flog, map-other, map-here, map-keeps}
+use Rattle.machine.proofs.invariant.Tidy.{tidy-word}
 use Rattle.machine.proofs.invariant.Inv.{plannedWord, LaneInv, Inv, blockIn, idle-inv, same-newer, lane-frame, lane-same, lane-other, update}
 
 -- the last store of a write
@@ -47,6 +49,8 @@ module _ (g : Layout) (a : List ℕ) (lanes : List Lane) (l : ℕ) (i : Inv g a 
       (r .sector .0) l (was .sector-in) u (λ s v n. other s v n) here (λ j k n. ap (λ (q : Lane). q .block .0) (lane-other lanes l (finishedLane r) j n))
       (ap (λ (q : Lane). q .block .0) (lane-same lanes l (finishedLane r) (omega (arith, i .long))) ∙ sym (was .mapped b)))
       (map-keeps g (i .ok) a (i .arena) (r .sector .0) (r .block .0) (was .sector-in) (was .block-in) (i .map-in))
+      (tidy-word g (i .ok) a (i .arena) (r .sector .0) (mappedTo (r .block .0)) (was .sector-in) (omega (arith, i .ok .small, was .block-in))
+      (mapped-clean (r .block .0) (omega (arith, i .ok .small, was .block-in))) (i .tidy))
     where
       flog : (j x k : ℕ) → j < g .N → x < 2 → k < 4 → flogWord g a′ j x k ≡ flogWord g a j x k
       flog = map-flog g (i .ok) a (i .arena) (r .sector .0) (r .block .0) (was .sector-in) (was .block-in)

@@ -1,5 +1,5 @@
 -- What every call through a good handle keeps, accepted or refused: start, step and whole write leave an arena and a handle that are
--- good again. Rules 16 and 7 never apply to such a handle.
+-- good again. Rules 16, 7 and 18 never apply to such a handle.
 use mathlib.Core.Path.{_≡_, refl, sym, _∙_}
 use mathlib.Core.Logic.{_≢_}
 use mathlib.Core.List.{List}
@@ -11,7 +11,7 @@ use lib.ListN.{length}
 use borrow.Author.Tests.{eqb-true, eq-eqb}
 use Rattle.words.proofs.Laws.{length-putWord}
 use Rattle.words.specs.Bytes.{Small}
-use Rattle.format.specs.MapWord.{badWord}
+use Rattle.format.specs.MapWord.{badWord, sloppyWord}
 use Rattle.format.proofs.Tests.{true-false, and-intro, every-intro, some-elim}
 use Rattle.format.proofs.MapWord.{badWord-false}
 use Rattle.layout.specs.Place.{layoutOf, at}
@@ -94,7 +94,7 @@ module _ (τ : Told) (told : ToldOk τ) where
       same : (openOf τ a work) .number ≡ 0 → (openOf τ a work) .handle .length ≡ length ((openOf τ a work) .arena)
       same d = unfold openOf handleFor in (rw d (sym (putAll-length (layoutIn τ a) (mends (layoutIn τ a) a ((layoutIn τ a) .N)) a)))
 
-  -- ---- rules 16 and 7 never apply
+  -- ---- rules 16, 7 and 18 never apply
 
   module _ (a : List ℕ) (h : Handle) (k : Held τ a h) where
     pub held-allowed : handleAllowed h (length a) ≡ true
@@ -107,6 +107,9 @@ module _ (τ : Told) (told : ToldOk τ) where
     held-word s u =
         badWord-false (h .figures .blocks) s (mapWord (laidOut h) a s)
         (blocks-out (h .distance) (h .figures) _ (k .good .inv .map-in s (sectors-in (h .distance) (h .figures) s u)))
+
+    pub held-clean : (s : ℕ) → s < h .figures .sectors → sloppyWord (mapWord (laidOut h) a s) ≡ false
+    held-clean s u = k .good .inv .tidy .words s (sectors-in (h .distance) (h .figures) s u)
 
     -- a sector is whole words
     pub held-whole : h .figures .size ≡ 4 * (laidOut h) .W

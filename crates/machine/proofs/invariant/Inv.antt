@@ -1,5 +1,5 @@
 -- What holds of an arena and the lane records of its handle, whatever was called: each lane's log agrees with its record, no two
--- lanes have one sector in flight, and mapped blocks with free blocks are every block once.
+-- lanes have one sector in flight, mapped blocks with free blocks are every block once, and rule 18 lets the arena pass.
 use mathlib.Core.Path.{_≡_, refl, sym, ap, ap₂, _∙_}
 use mathlib.Core.Logic.{_≢_}
 use mathlib.Core.List.{List}
@@ -19,6 +19,7 @@ use Rattle.machine.specs.state.Handle.{laneAt}
 use Rattle.machine.specs.state.Flog.{mapBlock, flogWord, newerHalf}
 use Rattle.machine.proofs.stores.Once.{Once}
 use Rattle.machine.proofs.stores.Stores.{Arena}
+use Rattle.machine.proofs.invariant.Tidy.{Tidy}
 
 -- the words that a write in flight stores in the next half of its lane's log
 abbrev pub plannedWord : Lane → ℕ → ℕ
@@ -70,6 +71,7 @@ pub record Inv (g : Layout) (a : List ℕ) (lanes : List Lane) : Type 0 where
   -- mapped blocks and the lanes' free blocks are all blocks, each once
   pub once : Once (g .I) (g .E) (g .N) (mapBlock g a) (blockIn lanes)
   pub map-in : (s : ℕ) → s < g .E → mapBlock g a s < g .I
+  pub tidy : Tidy g a
 
 -- an idle lane, by its log
 pub idle-inv : (g : Layout) → LayoutOk g → (a : List ℕ) (l block half sequence : ℕ) → block < g .I → half < 2 → 1 ≤ sequence → sequence ≤ 3
@@ -156,9 +158,9 @@ module _ (lanes : List Lane) (l : ℕ) (r : Lane) where
       → ((j : ℕ) → j < g .N → j ≢ l → LaneInv g a′ j (laneAt lanes j))
       → ((j : ℕ) → j < g .N → j ≢ l → isBusy r ≡ true → isBusy (laneAt lanes j) ≡ true → r .sector .0 ≢ (laneAt lanes j) .sector .0)
       → Once (g .I) (g .E) (g .N) (mapBlock g a′) (blockIn (set lanes l r))
-      → ((s : ℕ) → s < g .E → mapBlock g a′ s < g .I)
+      → ((s : ℕ) → s < g .E → mapBlock g a′ s < g .I) → Tidy g a′
       → Inv g a′ (set lanes l r)
-  update g a a′ i u ar own others far once m = record {
+  update g a a′ i u ar own others far once m t = record {
     ok = i .ok;
     arena = ar;
     long = rw length-set (i .long);
@@ -166,6 +168,7 @@ module _ (lanes : List Lane) (l : ℕ) (r : Lane) where
     apart = λ j k v w n. apart j k v w n (ℕ-discrete j l) (ℕ-discrete k l);
     once = once;
     map-in = m;
+    tidy = t;
   }
     where
       same : laneAt (set lanes l r) l ≡ r

@@ -64,4 +64,5 @@ inv-same g a lanes lanes′ long e i = record {
   apart = λ l j u v n. rw (e l u, e j v) (i .apart l j u v n);
   once = once-same _ _ _ _ _ _ _ (λ _ _. refl) (λ l u. ap (λ (q : Lane). q .block .0) (e l u)) (i .once);
   map-in = i .map-in;
+  tidy = i .tidy;
 }

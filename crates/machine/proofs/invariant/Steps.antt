@@ -25,6 +25,7 @@ use Rattle.machine.specs.calls.Writing.{planOf, flogStore, storeAt, lane
 use Rattle.machine.proofs.stores.Once.{once-same}
 use Rattle.machine.proofs.stores.Stores.{Fits, elsewhere, stored-word, stored-arena}
 use Rattle.machine.proofs.invariant.Inv.{plannedWord, Before, LaneInv, Inv, before-frame, turned, lane-frame, update, same-free}
+use Rattle.machine.proofs.invariant.Tidy.{tidy-outside}
 use Rattle.machine.proofs.invariant.Finish.{finalStore, finish}
 use Rattle.machine.proofs.stores.Kinds.{Kind, isData, isLog, isMap, kind, plan-ok, flog-small}
 
@@ -34,7 +35,7 @@ pub start-inv : (g : Layout) (a : List ℕ) (lanes : List Lane) (l s : ℕ) → 
     → Inv g a (set lanes l (startedLane (laneAt lanes l) s (mapBlock g a s)))
 start-inv g a lanes l s i u idle v far =
     update lanes l r g a a i u (i .arena) own (λ j k _. i .lane j k) (λ j k n _ b e. far j k b (sym e))
-    (once-same _ _ _ _ _ _ _ (λ _ _. refl) (λ j _. same-free lanes l r j (omega (arith, i .long)) refl) (i .once)) (i .map-in)
+    (once-same _ _ _ _ _ _ _ (λ _ _. refl) (λ j _. same-free lanes l r j (omega (arith, i .long)) refl) (i .once)) (i .map-in) (i .tidy)
   where
     r : Lane
     r = startedLane (laneAt lanes l) s (mapBlock g a s)
@@ -101,7 +102,7 @@ module _ (g : Layout) (a : List ℕ) (lanes : List Lane) (l : ℕ) (i : Inv g a 
       (λ _. same-map ((laneAt lanes j) .sector .0) (i .lane j k .sector-in)) (i .lane j k))
       (λ j k n _ c e. i .apart l j u k (λ d. n (sym d)) b c e)
       (once-same _ _ _ _ _ _ _ same-map (λ j _. same-free lanes l (storedLane r) j (omega (arith, i .long)) refl) (i .once))
-      (λ s v. rw (same-map s v) (i .map-in s v))
+      (λ s v. rw (same-map s v) (i .map-in s v)) (tidy-outside g (i .ok) a st (f .range) nm (i .tidy))
     where
       same-map : (s : ℕ) → s < g .E → mapBlock g (stored g st a) s ≡ mapBlock g a s
       same-map s v = ap (blockOf s) (elsewhere g (i .ok) a (st .place) (inMap s) (st .value) (f .range) v (nm s))

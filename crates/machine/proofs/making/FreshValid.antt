@@ -15,7 +15,7 @@ use Rattle.infoblock.specs.Info.{sound, infoBlockOf, figuresOf, infoWords}
 use Rattle.infoblock.specs.Claims.{Identifier, FreshBlock}
 use Rattle.layout.specs.declared.Figures.{Figures}
 use Rattle.format.proofs.Below.{Below, below-take}
-use Rattle.layout.proofs.Allowed.{layout-ok, layout-exact, alone-ok, allowed-fits}
+use Rattle.layout.proofs.Allowed.{starts-exact, layout-ok, layout-exact, alone-ok, allowed-fits}
 use Rattle.infoblock.proofs.InBytes.{sound-claim, figures-are}
 use Rattle.infoblock.proofs.FreshBlock.{info-length, info-below, made-block}
 use Rattle.infoblock.proofs.InfoBlock.{length-of, info-in, counting-main}
@@ -24,12 +24,15 @@ use Rattle.machine.specs.state.Handle.{laneAt}
 use Rattle.machine.specs.calls.Making.{dataEnd}
 use Rattle.machine.specs.calls.Opening.{figuresIn, layoutIn, openNumber, openOf}
 use Rattle.infoblock.specs.Claims.{Sound}
-use Rattle.machine.specs.words.Valid.{InfoOk, Valid}
+use Rattle.machine.specs.words.InBytes.{laneByte}
+use Rattle.machine.specs.words.Valid.{InfoOk, Clean, Valid}
+use Rattle.machine.proofs.stores.Offsets.{map-word}
 use Rattle.machine.proofs.opening.Opens.{zero-open, opened-lane}
 use Rattle.machine.proofs.opening.Reflect.{length-ok}
 use Rattle.machine.proofs.opening.Answers.{valid-opens}
 use Rattle.machine.proofs.making.FreshMap.{Fresh, lane-fresh, pending-none, mended-same, readable, no-bad-word, settled}
 use Rattle.machine.proofs.making.FreshWords.{made, Room, made-length, made-fresh, made-kept, made-bytes, main-length, main-word, made-copy}
+use Rattle.machine.proofs.making.FreshBytes.{fresh-lane}
 use Rattle.layout.specs.Told.{alone}
 use Rattle.machine.proofs.opening.Described.{told-alone}
 
@@ -132,6 +135,15 @@ module _ (first second : List ℕ) (f : Figures) (a : List ℕ) (d : Given first
         figures = subst (λ (x : Figures). Allowed x (length a)) (sym (figures-are main f (main-block .figures))) (d .ok);
       }
 
+  -- every map word and all of each lane but its first half is zero
+  clean : Clean 16 f m
+  unfolding layoutOf
+  clean = record {
+    words = λ s u w. omega (arith, w .1, sym (map-word 16 f (length a) (d .ok) m s), made-fresh (layoutOf 16 f) a (infoWords first second f) room .map s u);
+    padding = λ l j u v p. fresh-lane (layoutOf 16 f) a (infoWords first second f) room l u .rest (laneByte f l j)
+        (omega (arith, starts-exact f (length a) (d .ok) .2, p .0)) (omega (arith, starts-exact f (length a) (d .ok) .2));
+  }
+
   pub valid : Valid alone m
   unfolding main
   valid = record {
@@ -141,6 +153,7 @@ module _ (first second : List ℕ) (f : Figures) (a : List ℕ) (d : Given first
     flags = ap (λ (b : List ℕ). byteWord b 48) block ∙ main-block .flags;
     lanes = readable (layoutIn alone m) m fresh;
     words = no-bad-word (layoutIn alone m) m fresh;
+    clean = rw figures-in clean;
     settled = settled (layoutIn alone m) m fresh;
   }
 

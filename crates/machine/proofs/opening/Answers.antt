@@ -1,16 +1,17 @@
 -- Opening's answer by its line of the table, rule by rule, each where those before it passed; and a valid arena is one that opens.
 use mathlib.Core.Path.{_≡_, sym, _∙_}
-use mathlib.Core.List.{List}
-use mathlib.Core.Bool.{true, false}
+use mathlib.Core.List.{List, [], _∷_}
+use mathlib.Core.Bool.{true, false, not}
 use Prim.Native.Nat.{ℕ, _<_}
 use native.Mathlib.Omega.{arith}
+use lib.Dec.{eqb}
 use lib.ListN.{length}
 use borrow.Author.Tests.{ne-eqb, ltb-true, lt-ltb, not-true, not-false}
 use Rattle.words.specs.Bytes.{Small}
 use Rattle.layout.specs.Figures.{lengthAllowed}
 use Rattle.format.specs.MapWord.{badWord}
 use Rattle.format.specs.Claims.{BadWord}
-use Rattle.infoblock.specs.Info.{infoBlockOf}
+use Rattle.infoblock.specs.Info.{infoBlockOf, infoAllowed, flagsAllowed}
 use Rattle.format.proofs.Tests.{true-false, by-bool, every-intro, every-false, some-intro, some-true}
 use Rattle.machine.specs.state.Flog.{mapWord, mapBlock}
 use Rattle.machine.specs.calls.Opening.{
@@ -22,23 +23,28 @@ use Rattle.machine.specs.calls.Opening.{
   shortWork,
   lostLane,
   badWords,
+  sloppyArena,
   notValid,
   numberOpen,
   orderOpen,
   testsOpen,
+  figuresIn,
   layoutIn,
   laneReadable,
   openNumber,
   openOf,
   lanesLost,
   wordBad,
+  sloppy,
   unsettled,
 }
 use Rattle.machine.specs.words.Valid.{Readable, Settled, Valid, HoldsOpen, AnswersOpen}
 use Rattle.machine.specs.claims.Opening.{OpeningAnswers}
-use Rattle.machine.proofs.rules.Rules.{first-in, asked}
+use Rattle.machine.proofs.rules.Rules.{Guarded, first-in, asked}
 use Rattle.machine.proofs.opening.Mends.{readable-of, word-in}
-use Rattle.machine.proofs.opening.Described.{Described, described-layout, described-arena}
+use Rattle.machine.proofs.invariant.Tidy.{tidy-of}
+use Rattle.machine.proofs.opening.Clean.{tidy-clean, sloppy-found, found-sloppy, clean-passes}
+use Rattle.machine.proofs.opening.Described.{Described, told-distance, described-figures, described-layout, described-arena}
 use Rattle.machine.proofs.opening.Settled.{settled-of, of-settled}
 use Rattle.machine.proofs.opening.Opens.{Opens, open-zero, zero-open, lanes-pass, words-pass}
 use Rattle.machine.proofs.opening.Reflect.{
@@ -56,16 +62,22 @@ use Rattle.machine.proofs.opening.Reflect.{
   some-sound,
   counts-sound,
 }
+use Rattle.layout.specs.Told.{DistanceOk}
 use Rattle.layout.specs.declared.Told.{Told}
 use Rattle.machine.specs.state.Handle.{ToldOk}
 
 module _ (τ : Told) (told : ToldOk τ) where
   module _ (a : List ℕ) (small : Small a) where
+    dist : DistanceOk (τ .distance)
+    dist = told-distance (τ .distance) told
+
     lanes-in : lanesLost (layoutIn τ a) a ≡ false → (l : ℕ) → l < (layoutIn τ a) .N → laneReadable (layoutIn τ a) a l ≡ true
     lanes-in = lanes-pass (layoutIn τ a) a
 
-    words-in : Described τ a → wordBad (layoutIn τ a) a ≡ false → (s : ℕ) → s < (layoutIn τ a) .E → mapBlock (layoutIn τ a) a s < (layoutIn τ a) .I
-    words-in d e s u = word-in (layoutIn τ a) (described-layout τ told a d) a s u (words-pass (layoutIn τ a) a e s u)
+    words-in : Described τ a → wordBad (layoutIn τ a) a ≡ false → sloppy (layoutIn τ a) a ≡ false → (s : ℕ) → s < (layoutIn τ a) .E
+        → mapBlock (layoutIn τ a) a s < (layoutIn τ a) .I
+    words-in d e f s u =
+        word-in (layoutIn τ a) (described-layout τ told a d) a s u (words-pass (layoutIn τ a) a e s u) (tidy-of (layoutIn τ a) a f .words s u)
 
     lane-lost : lanesLost (layoutIn τ a) a ≡ true → (l : ℕ) × (l < (layoutIn τ a) .N) × (Readable (layoutIn τ a) a l → ⊥)
     lane-lost e =
@@ -75,13 +87,13 @@ module _ (τ : Told) (told : ToldOk τ) where
     word-bad : wordBad (layoutIn τ a) a ≡ true → (s : ℕ) × (s < (layoutIn τ a) .E) × BadWord ((layoutIn τ a) .I) (mapWord (layoutIn τ a) a s)
     word-bad e = let w = some-true _ _ e in (w .0, w .1, bad-ok _ _ (w .2))
 
-    settled-yes : Described τ a → lanesLost (layoutIn τ a) a ≡ false → wordBad (layoutIn τ a) a ≡ false → unsettled (layoutIn τ a) a ≡ false
-        → Settled (layoutIn τ a) a
-    settled-yes d e f = settled-of (layoutIn τ a) (described-layout τ told a d) a (described-arena τ told a d small) (lanes-in e) (words-in d f)
+    settled-yes : Described τ a → lanesLost (layoutIn τ a) a ≡ false → wordBad (layoutIn τ a) a ≡ false → sloppy (layoutIn τ a) a ≡ false
+        → unsettled (layoutIn τ a) a ≡ false → Settled (layoutIn τ a) a
+    settled-yes d e f t = settled-of (layoutIn τ a) (described-layout τ told a d) a (described-arena τ told a d small) (lanes-in e) (words-in d f t)
 
-    unsettled-no : Described τ a → lanesLost (layoutIn τ a) a ≡ false → wordBad (layoutIn τ a) a ≡ false → Settled (layoutIn τ a) a
-        → unsettled (layoutIn τ a) a ≡ false
-    unsettled-no d e f = of-settled (layoutIn τ a) (described-layout τ told a d) a (described-arena τ told a d small) (lanes-in e) (words-in d f)
+    unsettled-no : Described τ a → lanesLost (layoutIn τ a) a ≡ false → wordBad (layoutIn τ a) a ≡ false → sloppy (layoutIn τ a) a ≡ false
+        → Settled (layoutIn τ a) a → unsettled (layoutIn τ a) a ≡ false
+    unsettled-no d e f t = of-settled (layoutIn τ a) (described-layout τ told a d) a (described-arena τ told a d small) (lanes-in e) (words-in d f t)
 
     -- what each rule needs of those before it
     needs : OpenRule → Type 0
@@ -92,7 +104,8 @@ module _ (τ : Told) (told : ToldOk τ) where
     needs shortWork = Unit {0}
     needs lostLane = Unit {0}
     needs badWords = Unit {0}
-    needs notValid = Described τ a × (lanesLost (layoutIn τ a) a ≡ false) × (wordBad (layoutIn τ a) a ≡ false)
+    needs sloppyArena = Described τ a
+    needs notValid = Described τ a × (lanesLost (layoutIn τ a) a ≡ false) × (wordBad (layoutIn τ a) a ≡ false) × (sloppy (layoutIn τ a) a ≡ false)
 
     tells : (room : ℕ) (r : OpenRule) → needs r → (testsOpen τ a room r ≡ true → HoldsOpen τ a room r) × (HoldsOpen τ a room r → testsOpen τ a room r ≡ true)
     unfolding needs
@@ -111,36 +124,27 @@ module _ (τ : Told) (told : ToldOk τ) where
       λ f. by-bool (wordBad (layoutIn τ a) a) _ (λ t. t)
           (λ t. true-false (sym (ok-bad _ _ (f .2)) ∙ words-pass (layoutIn τ a) a t (f .0) (f .1))),
     )
+    tells room sloppyArena u = (
+      sloppy-found (τ .distance) dist (figuresIn a) (length a) (described-figures τ told a u) a small,
+      found-sloppy (τ .distance) dist (figuresIn a) (length a) (described-figures τ told a u) a small,
+    )
     tells room notValid u = (
-      λ e s. true-false (sym e ∙ unsettled-no (u .0) (u .1) (u .2) s),
-      λ f. by-bool (unsettled (layoutIn τ a) a) _ (λ t. t) (λ t. absurd (f (settled-yes (u .0) (u .1) (u .2) t))),
+      λ e s. true-false (sym e ∙ unsettled-no (u .0) (u .1) (u .2) (u .3) s),
+      λ f. by-bool (unsettled (layoutIn τ a) a) _ (λ t. t) (λ t. absurd (f (settled-yes (u .0) (u .1) (u .2) (u .3) t))),
     )
 
     pub answers : (room : ℕ) → AnswersOpen τ a room (openNumber τ a room)
     unfolding openNumber needs
-    answers room = first-in numberOpen needs (testsOpen τ a room) (HoldsOpen τ a room) (tells room) orderOpen (
-      tt,
-      λ p1. (
-        not-false _ p1,
-        λ p2. (
-          tt,
-          λ p3. (
-            tt,
-            λ p4. (
-              tt,
-              λ p5. (
-                tt,
-                λ p6. (
-                  tt,
-                  λ p7.
-                      ((record { size = not-false _ p1; block = p2; allowed = not-false _ p3; flags = not-false _ p4 }, p6, p7), λ _. tt),
-                ),
-              ),
-            ),
-          ),
-        ),
-      ),
-    )
+    answers room = first-in numberOpen needs (testsOpen τ a room) (HoldsOpen τ a room) (tells room) orderOpen
+        (tt, λ p1. (not-false _ p1, λ p2. (tt, λ p3. (tt, λ p4. (tt, λ p5. (tt, λ p6. (tt, λ p7. later (described p1 p2 p3 p4) p6 p7)))))))
+      where
+        described : not (lengthAllowed (length a)) ≡ false → eqb (length (infoBlockOf a)) 0 ≡ false → not (infoAllowed τ (infoBlockOf a) (length a)) ≡ false
+            → not (flagsAllowed (infoBlockOf a)) ≡ false → Described τ a
+        described p1 p2 p3 p4 = record { size = not-false _ p1; block = p2; allowed = not-false _ p3; flags = not-false _ p4 }
+
+        later : Described τ a → lanesLost (layoutIn τ a) a ≡ false → wordBad (layoutIn τ a) a ≡ false
+            → Guarded numberOpen needs (testsOpen τ a room) (sloppyArena ∷ notValid ∷ [])
+        later d p6 p7 = (d, λ p18. ((d, p6, p7, p18), λ _. tt))
 
     opens-valid : Opens τ a → Valid τ a
     opens-valid o =
@@ -152,7 +156,8 @@ module _ (τ : Told) (told : ToldOk τ) where
           flags = flags-ok (infoBlockOf a) (d .flags);
           lanes = λ l u. readable-of (layoutIn τ a) a l (lanes-in (o .lanes) l u);
           words = λ s u b. true-false (sym (ok-bad _ _ b) ∙ words-pass (layoutIn τ a) a (o .words) s u);
-          settled = settled-yes d (o .lanes) (o .words) (o .settled);
+          clean = tidy-clean (τ .distance) dist (figuresIn a) (length a) (described-figures τ told a d) a small (tidy-of (layoutIn τ a) a (o .clean));
+          settled = settled-yes d (o .lanes) (o .words) (o .clean) (o .settled);
         }
 
     pub valid-opens : Valid τ a → Opens τ a
@@ -167,11 +172,13 @@ module _ (τ : Told) (told : ToldOk τ) where
         let f : lanesLost (layoutIn τ a) a ≡ false = rw all in
         let w : wordBad (layoutIn τ a) a ≡ false = some-intro ((layoutIn τ a) .E) _
         (λ s u. by-bool (badWord ((layoutIn τ a) .I) (mapWord (layoutIn τ a) a s)) _ (λ t. absurd (v .words s u (bad-ok _ _ t))) (λ t. t)) in
+        let c = clean-passes (τ .distance) dist (figuresIn a) (length a) (described-figures τ told a d) a small (v .clean) in
         record {
           info = d;
           lanes = f;
           words = w;
-          settled = unsettled-no d f w (v .settled);
+          clean = c;
+          settled = unsettled-no d f w c (v .settled);
         }
 
     pub opening-answers : (work : List ℕ) → OpeningAnswers τ a work

@@ -56,6 +56,7 @@ module _ (g : Layout) (a : List ℕ) (lanes : List Lane) (i : Inv g a lanes) whe
     arena = i .arena;
     lanes = λ l u. lane-readable g a l (laneAt lanes l) (i .lane l u);
     words = λ s u. badWord-false (g .I) s (mapWord g a s) (i .map-in s u);
+    tidy = i .tidy;
     apart = none-twice;
     once = once-found;
   }

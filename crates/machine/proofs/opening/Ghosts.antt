@@ -21,6 +21,7 @@ use Rattle.machine.specs.calls.Opening.{laneReadable, mends, mended, two
 use Rattle.machine.specs.words.Valid.{Readable}
 use Rattle.machine.proofs.stores.Once.{Once, once-of, count-same}
 use Rattle.machine.proofs.stores.Stores.{Arena}
+use Rattle.machine.proofs.invariant.Tidy.{Tidy}
 use Rattle.machine.proofs.invariant.Inv.{plannedWord, LaneInv, Inv, blockIn, idle-inv}
 use Rattle.machine.proofs.opening.Found.{ended, settledLane, pending-is, mends-are}
 use Rattle.machine.proofs.opening.Ends.{finishLanes, finish-later, finish-sooner, finish-inv}
@@ -28,12 +29,13 @@ use Rattle.machine.proofs.opening.Mends.{readable-of, word-in, pending-
 use Rattle.machine.proofs.opening.Spare.{two-apart, spare-count}
 use Rattle.machine.proofs.invariant.Lanes.{listed, listed-length, lane-listed, found-length, found-lane-at, inv-same}
 
--- an arena that passes rules 6 to 8, in its layout
+-- an arena that passes rules 6 to 8 and 18, in its layout
 pub record Consistent (g : Layout) (a : List ℕ) : Type 0 where
   pub ok : LayoutOk g
   pub arena : Arena g a
   pub lanes : (l : ℕ) → l < g .N → laneReadable g a l ≡ true
   pub words : (s : ℕ) → s < g .E → badWord (g .I) (mapWord g a s) ≡ false
+  pub tidy : Tidy g a
   pub apart : twoPending g a ≡ false
   pub once : eachOnce g (mapBlock g (mended g a)) (freeOf g a) ≡ true
 
@@ -129,7 +131,7 @@ module _ (g : Layout) (a : List ℕ) (j : Consistent g a) where
   ghost-at l u = lane-listed (ghostLane g a) (g .N) l u
 
   found-in : (s : ℕ) → s < g .E → mapBlock g a s < g .I
-  found-in s u = word-in g (j .ok) a s u (j .words s u)
+  found-in s u = word-in g (j .ok) a s u (j .words s u) (j .tidy .words s u)
 
   ghost-inv : Inv g a (ghosts g a)
   unfolding Once
@@ -143,6 +145,7 @@ module _ (g : Layout) (a : List ℕ) (j : Consistent g a) where
         (count-same (g .N) (spareOf g a) (blockIn (ghosts g a)) b (λ l v. ap (λ (q : Lane). q .block .0) (ghost-at l v) ∙ ghost-block g a l))
         ∙ sym (spare-count g (j .ok) a (j .arena) (j .lanes) (j .apart) b) ∙ once-of g _ _ (j .once) b u;
     map-in = found-in;
+    tidy = j .tidy;
   }
     where
       apart : (l k : ℕ) → l < g .N → k < g .N → l ≢ k → isBusy (ghostLane g a l) ≡ true → isBusy (ghostLane g a k) ≡ true

@@ -12,7 +12,7 @@ use lib.ListN.{length, take, length-append}
 use lib.Seq.{take-all, take-nil, take-append-le}
 use borrow.Author.Tests.{eqb-true, ltb-true}
 use Rattle.layout.specs.Place.{Layout, LayoutOk}
-use Rattle.format.specs.MapWord.{badWord}
+use Rattle.format.specs.MapWord.{badWord, sloppyWord}
 use Rattle.format.proofs.Tests.{by-bool, all-elim}
 use Rattle.format.proofs.MapWord.{block-in}
 use Rattle.machine.specs.state.Stores.{stored, putAll}
@@ -32,8 +32,9 @@ readable-of g a l e =
     let h = all-elim (ltb (newerHalf g a l) 2 ∷ ltb (newerWord g a l 0) (g .E) ∷ ltb (newerWord g a l 1) (g .I) ∷ ltb (newerWord g a l 2) (g .I) ∷ []) e in
     record { newer = ltb-true _ _ (h .0); sector = ltb-true _ _ (h .1 .0); old = ltb-true _ _ (h .1 .1 .0); new = ltb-true _ _ (h .1 .1 .1 .0) }
 
--- and rule 7: a sector's word that passes stands for a block in range
-pub word-in : (g : Layout) → LayoutOk g → (a : List ℕ) (s : ℕ) → s < g .E → badWord (g .I) (mapWord g a s) ≡ false → mapBlock g a s < g .I
+-- and rules 7 and 18: a sector's word that passes stands for a block in range
+pub word-in : (g : Layout) → LayoutOk g → (a : List ℕ) (s : ℕ) → s < g .E → badWord (g .I) (mapWord g a s) ≡ false
+    → sloppyWord (mapWord g a s) ≡ false → mapBlock g a s < g .I
 word-in g ok a s u = block-in (g .I) s (mapWord g a s) (omega (arith, ok .blocks))
 
 -- a pending lane's sector is mapped to its old block

@@ -24,6 +24,7 @@ use Rattle.machine.specs.calls.Opening.{
   shortWork,
   lostLane,
   badWords,
+  sloppyArena,
   notValid,
   numberOpen,
   aloneRules,
@@ -67,13 +68,15 @@ sooner test = go (test wrongLength) (test noInfoBlock) (test forbiddenFigure) (t
 
 later : (test : OpenRule → Bool) → (answer numberOpen test mapRules ≡ 0) ⊎ (6 ≤ answer numberOpen test mapRules)
 unfolding answer
-later test = go (test lostLane) (test badWords) (test notValid)
+later test = go (test lostLane) (test badWords) (test sloppyArena) (test notValid)
   where
-    go : (t6 t7 t8 : Bool) → (_≡_ {A = ℕ} (cond t6 6 (cond t7 7 (cond t8 8 0))) 0) ⊎ (6 ≤ cond t6 6 (cond t7 7 (cond t8 8 0)))
-    go true t7 t8 = inr (omega arith)
-    go false true t8 = inr (omega arith)
-    go false false true = inr (omega arith)
-    go false false false = inl refl
+    go : (t6 t7 t18 t8 : Bool)
+        → (let n : ℕ = cond t6 6 (cond t7 7 (cond t18 18 (cond t8 8 0))) in (n ≡ 0) ⊎ (6 ≤ n))
+    go true t7 t18 t8 = inr (omega arith)
+    go false true t18 t8 = inr (omega arith)
+    go false false true t8 = inr (omega arith)
+    go false false false true = inr (omega arith)
+    go false false false false = inl refl
 
 module _ (τ : Told) (told : ToldOk τ) where
   module _ (a work : List ℕ) where

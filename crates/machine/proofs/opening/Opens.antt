@@ -19,10 +19,37 @@ use Rattle.machine.specs.declared.lane.Lane.{Lane}
 use Rattle.machine.specs.state.Handle.{Handle, laneAt, ToldOk}
 use Rattle.machine.specs.state.Flog.{mapWord}
 use Rattle.machine.specs.Rules.{answer}
-use Rattle.machine.specs.calls.Opening.{OpenRule, wrongLength, noInfoBlock, forbiddenFigure, flagsSet, shortWork, lostLane, badWords, notValid, numberOpen, orderOpen, testsOpen, lanesLost, wordBad, unsettled, figuresIn, layoutIn, laneReadable, twoPending, openNumber, foundLane, handleFor, openOf}
+use Rattle.machine.specs.calls.Opening.{
+  OpenRule,
+  wrongLength,
+  noInfoBlock,
+  forbiddenFigure,
+  flagsSet,
+  shortWork,
+  lostLane,
+  badWords,
+  sloppyArena,
+  notValid,
+  numberOpen,
+  orderOpen,
+  testsOpen,
+  lanesLost,
+  wordBad,
+  sloppy,
+  unsettled,
+  figuresIn,
+  layoutIn,
+  laneReadable,
+  twoPending,
+  openNumber,
+  foundLane,
+  handleFor,
+  openOf,
+}
 use Rattle.machine.specs.claims.DemandTwo.{AllIdle}
 use Rattle.machine.proofs.rules.Rules.{Passed, passed-all}
 use Rattle.machine.proofs.invariant.Lanes.{found-lane-at}
+use Rattle.machine.proofs.invariant.Tidy.{tidy-of, of-tidy}
 use Rattle.machine.proofs.opening.Described.{Described, described-layout, described-arena}
 use Rattle.machine.proofs.opening.Ghosts.{Consistent}
 use Rattle.layout.specs.declared.Told.{Told}
@@ -33,6 +60,7 @@ module _ (τ : Told) where
     pub info : Described τ a
     pub lanes : lanesLost (layoutIn τ a) a ≡ false
     pub words : wordBad (layoutIn τ a) a ≡ false
+    pub clean : sloppy (layoutIn τ a) a ≡ false
     pub settled : unsettled (layoutIn τ a) a ≡ false
 
 -- rules 6 and 7 passed, lane by lane and word by word
@@ -52,6 +80,7 @@ some-number-open flagsSet e = omega arith
 some-number-open shortWork e = omega arith
 some-number-open lostLane e = omega arith
 some-number-open badWords e = omega arith
+some-number-open sloppyArena e = omega arith
 some-number-open notValid e = omega arith
 
 pub record OpeningPassed (τ : Told) (a : List ℕ) (n : ℕ) : Type 0 where
@@ -62,10 +91,11 @@ pub record OpeningPassed (τ : Told) (a : List ℕ) (n : ℕ) : Type 0 where
   pub room : (layoutIn τ a) .I ≤ n
   pub lanes : lanesLost (layoutIn τ a) a ≡ false
   pub words : wordBad (layoutIn τ a) a ≡ false
+  pub clean : sloppy (layoutIn τ a) a ≡ false
   pub settled : unsettled (layoutIn τ a) a ≡ false
 
 opening-passed : (τ : Told) (a : List ℕ) (room : ℕ) → Passed numberOpen (testsOpen τ a room) orderOpen → OpeningPassed τ a room
-opening-passed τ a room (p1, (p2, (p3, (p4, (p5, (p6, (p7, (p8, _)))))))) = record {
+opening-passed τ a room (p1, (p2, (p3, (p4, (p5, (p6, (p7, (p18, (p8, _))))))))) = record {
   size = not-false _ p1;
   block = p2;
   allowed = not-false _ p3;
@@ -73,6 +103,7 @@ opening-passed τ a room (p1, (p2, (p3, (p4, (p5, (p6, (p7, (p8, _)))))))) = rec
   room = ltb-false _ _ p5;
   lanes = p6;
   words = p7;
+  clean = p18;
   settled = p8;
 }
 
@@ -80,7 +111,7 @@ module _ (τ : Told) (told : ToldOk τ) where
   module _ (a : List ℕ) (room : ℕ) where
     pub open-number : Opens τ a → openNumber τ a room ≡ cond (ltb room ((layoutIn τ a) .I)) 5 0
     unfolding openNumber answer
-    open-number o = rw (o .info .size, o .info .block, o .info .allowed, o .info .flags, o .lanes, o .words, o .settled)
+    open-number o = rw (o .info .size, o .info .block, o .info .allowed, o .info .flags, o .lanes, o .words, o .clean, o .settled)
 
     pub zero-open : Opens τ a → (layoutIn τ a) .I ≤ room → openNumber τ a room ≡ 0
     zero-open o h = open-number o ∙ rw (le-ltb room ((layoutIn τ a) .I) h)
@@ -93,6 +124,7 @@ module _ (τ : Told) (told : ToldOk τ) where
             info = record { size = p .size; block = p .block; allowed = p .allowed; flags = p .flags };
             lanes = p .lanes;
             words = p .words;
+            clean = p .clean;
             settled = p .settled;
           },
           p .room,
@@ -132,6 +164,7 @@ module _ (τ : Told) (told : ToldOk τ) where
         arena = described-arena τ told a (o .info) small;
         lanes = lanes-pass g a (o .lanes);
         words = words-pass g a (o .words);
+        tidy = tidy-of g a (o .clean);
         apart = p .0;
         once = not-false _ (p .1);
       }
@@ -141,5 +174,6 @@ module _ (τ : Told) (told : ToldOk τ) where
     info = d;
     lanes = rw (every-intro (g .N) (laneReadable g a) (j .lanes));
     words = some-intro (g .E) (λ s. badWord (g .I) (mapWord g a s)) (j .words);
+    clean = of-tidy g a (j .tidy);
     settled = rw (j .apart, j .once);
   }

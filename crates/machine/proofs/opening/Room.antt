@@ -15,7 +15,7 @@ use Rattle.layout.specs.Place.{layoutOf}
 use Rattle.layout.specs.Told.{alone}
 use Rattle.layout.specs.declared.Figures.{Figures}
 use Rattle.machine.specs.Rules.{answer}
-use Rattle.machine.specs.calls.Opening.{figuresIn, layoutIn, lanesLost, wordBad, unsettled, openNumber, openOf}
+use Rattle.machine.specs.calls.Opening.{figuresIn, layoutIn, lanesLost, wordBad, sloppy, unsettled, openNumber, openOf}
 use Rattle.machine.proofs.opening.Described.{Described, told-alone, described-figures}
 
 few-blocks : (f : Figures) (n room : ℕ) → Allowed f n → n ≤ 512 * room → f .blocks ≤ room
@@ -25,23 +25,24 @@ few-blocks f n room ok h =
     omega (arith, ok .data-end, ok .map-end, ok .flog-end, ok .copy-start)
 
 -- the fifth rule does not apply where the four before it do not
-not-five : (p q r s t u v w : Bool) → (p ≡ false → q ≡ false → r ≡ false → s ≡ false → t ≡ false)
-    → _≡_ {A = ℕ} (cond p 1 (cond q 2 (cond r 3 (cond s 4 (cond t 5 (cond u 6 (cond v 7 (cond w 8 0)))))))) 5 → ⊥
-not-five true q r s t u v w h e = omega arith
-not-five false true r s t u v w h e = omega arith
-not-five false false true s t u v w h e = omega arith
-not-five false false false true t u v w h e = omega arith
-not-five false false false false true u v w h e = true-false (h refl refl refl refl)
-not-five false false false false false true v w h e = omega arith
-not-five false false false false false false true w h e = omega arith
-not-five false false false false false false false true h e = omega arith
-not-five false false false false false false false false h e = omega arith
+not-five : (p q r s t u v w x : Bool) → (p ≡ false → q ≡ false → r ≡ false → s ≡ false → t ≡ false)
+    → _≡_ {A = ℕ} (cond p 1 (cond q 2 (cond r 3 (cond s 4 (cond t 5 (cond u 6 (cond v 7 (cond w 18 (cond x 8 0))))))))) 5 → ⊥
+not-five true q r s t u v w x h e = omega arith
+not-five false true r s t u v w x h e = omega arith
+not-five false false true s t u v w x h e = omega arith
+not-five false false false true t u v w x h e = omega arith
+not-five false false false false true u v w x h e = true-false (h refl refl refl refl)
+not-five false false false false false true v w x h e = omega arith
+not-five false false false false false false true w x h e = omega arith
+not-five false false false false false false false true x h e = omega arith
+not-five false false false false false false false false true h e = omega arith
+not-five false false false false false false false false false h e = omega arith
 
 enough : (a : List ℕ) (n : ℕ) → length a ≤ 512 * n → openNumber alone a n ≡ 5 → ⊥
 unfolding openNumber answer layoutOf
 enough a n h =
     let g = layoutIn alone a in
-    not-five _ _ _ _ _ (lanesLost g a) (wordBad g a) (unsettled g a)
+    not-five _ _ _ _ _ (lanesLost g a) (wordBad g a) (sloppy g a) (unsettled g a)
     (λ p q r s. room (record { size = not-false _ p; block = q; allowed = not-false _ r; flags = not-false _ s }))
   where
     room : Described alone a → ltb n ((layoutIn alone a) .I) ≡ false

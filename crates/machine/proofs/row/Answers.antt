@@ -26,12 +26,13 @@ use Rattle.machine.specs.calls.Order.{
   laneIdle,
   sectorBusy,
   badMapWord,
+  sloppyMapWord,
   badSector,
   number,
   order,
 }
 use Rattle.machine.specs.models.Row.{isBad, isFlying, fliesTo, Row, rowTests, rowNumber, rowRead}
-use Rattle.machine.proofs.invariant.Held.{held-allowed, held-word, lanes-in, sectors-in}
+use Rattle.machine.proofs.invariant.Held.{held-allowed, held-word, held-clean, lanes-in, sectors-in}
 use Rattle.machine.proofs.rules.Rules.{alike}
 use Rattle.machine.proofs.rules.Running.{Needs, guarded}
 use Rattle.machine.proofs.row.Contents.{contentOf}
@@ -73,6 +74,7 @@ module _ (τ : Told) (told : ToldOk τ) where
     agree (laneIdle l) u = ap not (busy-is l u)
     agree (sectorBusy s) u = flight-is s
     agree (badMapWord s) u = held-word τ told a h (k .held) s u
+    agree (sloppyMapWord s) u = held-clean τ told a h (k .held) s u
     agree (badSector s) u = bad-is s u
 
     pub number-is : (c : Call) → callNumber a h c ≡ rowNumber (h .figures) row c

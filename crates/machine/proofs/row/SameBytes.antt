@@ -26,6 +26,7 @@ use Rattle.machine.specs.calls.Order.{
   laneIdle,
   sectorBusy,
   badMapWord,
+  sloppyMapWord,
   badSector,
   number,
   order,
@@ -121,6 +122,7 @@ module _ (f : Figures) (row : Row) where
   tests-alike (sectorBusy s) =
       some-same (f .lanes) (λ j. fliesTo s (first (row .lane j))) (λ j. fliesTo s (row .lane j)) (λ j _. to-first s (row .lane j))
   tests-alike (badMapWord s) = refl
+  tests-alike (sloppyMapWord s) = refl
   tests-alike (badSector s) = refl
 
   number-alike : (c : Call) → rowNumber f (firsts row) c ≡ rowNumber f row c

@@ -49,6 +49,13 @@ module _ {R : Type 0} (number : R → ℕ) where
     first-zero [] ss e = refl
     first-zero (r ∷ rs) ss e = by-bool (test r) _ (λ p. absurd (some r (rw p at e))) (λ p. rw p (first-zero rs ss (rw p at e)))
 
+  -- a number whose rules never apply is not given
+  pub answer-not : (test : R → Bool) (n : ℕ) → n ≢ 0 → ((r : R) → number r ≡ n → test r ≡ false) → (rs : List R) → answer number test rs ≢ n
+  unfolding answer
+  answer-not test n z never [] e = z (sym e)
+  answer-not test n z never (r ∷ rs) e =
+      by-bool (test r) _ (λ p. true-false (sym p ∙ never r (rw p at e))) (λ p. answer-not test n z never rs (rw p at e))
+
   -- ---- rules that are asked only where no earlier one applies
 
   -- what each rule needs is known where no earlier rule applies

@@ -22,6 +22,7 @@ use Rattle.machine.specs.calls.Order.{
   laneIdle,
   sectorBusy,
   badMapWord,
+  sloppyMapWord,
   badSector,
   number,
   order,
@@ -38,6 +39,7 @@ some-number (laneBusy l) e = omega arith
 some-number (laneIdle l) e = omega arith
 some-number (sectorBusy s) e = omega arith
 some-number (badMapWord s) e = omega arith
+some-number (sloppyMapWord s) e = omega arith
 some-number (badSector s) e = omega arith
 
 -- a rule about a lane or a sector is asked of one that there is
@@ -50,15 +52,17 @@ Needs f (laneBusy l) = l < f .lanes
 Needs f (laneIdle l) = l < f .lanes
 Needs f (sectorBusy s) = s < f .sectors
 Needs f (badMapWord s) = s < f .sectors
+Needs f (sloppyMapWord s) = s < f .sectors
 Needs f (badSector s) = s < f .sectors
 
 module _ (f : Figures) (test : Rule → Bool) (lane : (l : ℕ) → test (noSuchLane l) ≡ false → l < f .lanes)
     (sector : (s : ℕ) → test (noSuchSector s) ≡ false → s < f .sectors) where
   pub guarded : (c : Call) → Guarded number (Needs f) test (order c)
-  guarded (read s b) = (tt, λ _. (tt, λ v. (tt, λ _. (sector s v, λ _. (sector s v, λ _. tt)))))
-  guarded (start l s) = (tt, λ _. (tt, λ u. (lane l u, λ _. (tt, λ v. (sector s v, λ _. (sector s v, λ _. tt))))))
+  guarded (read s b) = (tt, λ _. (tt, λ v. (tt, λ _. (sector s v, λ _. (sector s v, λ _. (sector s v, λ _. tt))))))
+  guarded (start l s) = (tt, λ _. (tt, λ u. (lane l u, λ _. (tt, λ v. (sector s v, λ _. (sector s v, λ _. (sector s v, λ _. tt)))))))
   guarded (step l b) = (tt, λ _. (tt, λ u. (lane l u, λ _. (tt, λ _. tt))))
-  guarded (write l s b) = (tt, λ _. (tt, λ u. (lane l u, λ _. (tt, λ v. (tt, λ _. (sector s v, λ _. (sector s v, λ _. tt)))))))
+  guarded (write l s b) =
+      (tt, λ _. (tt, λ u. (lane l u, λ _. (tt, λ v. (tt, λ _. (sector s v, λ _. (sector s v, λ _. (sector s v, λ _. tt))))))))
 
 module _ (a : List ℕ) (h : Handle) (c : Call) where
   -- the answer at which a walk along the call's order ends

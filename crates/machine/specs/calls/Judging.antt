@@ -5,7 +5,7 @@ use Prim.Native.Nat.{ℕ}
 use lib.Dec.{eqb, leb}
 use lib.ListN.{length}
 use Rattle.format.specs.Tests.{some}
-use Rattle.format.specs.MapWord.{flagsOf, readingOf, badWord}
+use Rattle.format.specs.MapWord.{flagsOf, readingOf, badWord, sloppyWord}
 use Rattle.machine.specs.declared.lane.Lane.{Lane}
 use Rattle.machine.specs.Rules.{answer}
 use Rattle.machine.specs.calls.Order.{
@@ -19,6 +19,7 @@ use Rattle.machine.specs.calls.Order.{
   laneIdle,
   sectorBusy,
   badMapWord,
+  sloppyMapWord,
   badSector,
   number,
   order,
@@ -40,6 +41,7 @@ tests a h (laneBusy l) = isBusy (laneAt (h .lanes) l)
 tests a h (laneIdle l) = not (isBusy (laneAt (h .lanes) l))
 tests a h (sectorBusy s) = inFlight (h .lanes) (h .figures .lanes) s
 tests a h (badMapWord s) = badWord (h .figures .blocks) (mapWord (laidOut h) a s)
+tests a h (sloppyMapWord s) = sloppyWord (mapWord (laidOut h) a s)
 tests a h (badSector s) = eqb (readingOf (flagsOf (mapWord (laidOut h) a s))) 1
 
 -- the number of the first rule of the call's order that applies, 0 where none does

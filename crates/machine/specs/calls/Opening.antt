@@ -6,7 +6,7 @@ use lib.Dec.{eqb, ltb}
 use lib.ListN.{length, take, drop, replicate}
 use Rattle.format.specs.Tests.{every, some, allOf}
 use Rattle.format.specs.Sequence.{successor}
-use Rattle.format.specs.MapWord.{mappedTo, badWord}
+use Rattle.format.specs.MapWord.{mappedTo, badWord, sloppyWord}
 use Rattle.layout.specs.Figures.{lengthAllowed}
 use Rattle.layout.specs.Place.{Layout, layoutOf, inMap}
 use Rattle.layout.specs.declared.Figures.{Figures}
@@ -17,7 +17,7 @@ use Rattle.machine.specs.Rules.{answer}
 use Rattle.machine.specs.state.Lane.{idleLane}
 use Rattle.machine.specs.state.Handle.{Handle, noHandle}
 use Rattle.machine.specs.state.Stores.{Store, putAll}
-use Rattle.machine.specs.state.Flog.{mapWord, mapBlock, newerHalf, newerWord, freeOf, pending}
+use Rattle.machine.specs.state.Flog.{mapWord, mapBlock, newerHalf, newerWord, freeOf, pending, paddingSet}
 
 -- the figures of the arena's info block that counts, and its layout as an opening is told it
 abbrev pub figuresIn : List ℕ → Figures
@@ -72,11 +72,15 @@ lanesLost g a = not (every (g .N) (laneReadable g a))
 abbrev pub wordBad : Layout → List ℕ → Bool
 wordBad g a = some (g .E) (λ s. badWord (g .I) (mapWord g a s))
 
+-- rule 18: some sector's map word is sloppy, or some lane's padding is not zero
+abbrev pub sloppy : Layout → List ℕ → Bool
+sloppy g a = some (g .E) (λ s. sloppyWord (mapWord g a s)) || some (g .N) (paddingSet g a)
+
 -- rule 8: two pending lanes name one sector, or mapped and free blocks are not each block once
 abbrev pub unsettled : Layout → List ℕ → Bool
 unsettled g a = twoPending g a || not (eachOnce g (mapBlock g (mended g a)) (freeOf g a))
 
--- a condition of document 01's table at opening
+-- a condition of document 01's table at opening, or 18 of a sloppy arena
 pub data OpenRule : Type 0 where
   wrongLength : OpenRule
   noInfoBlock : OpenRule
@@ -85,6 +89,7 @@ pub data OpenRule : Type 0 where
   shortWork : OpenRule
   lostLane : OpenRule
   badWords : OpenRule
+  sloppyArena : OpenRule
   notValid : OpenRule
 
 abbrev pub numberOpen : OpenRule → ℕ
@@ -95,6 +100,7 @@ numberOpen flagsSet = 4
 numberOpen shortWork = 5
 numberOpen lostLane = 6
 numberOpen badWords = 7
+numberOpen sloppyArena = 18
 numberOpen notValid = 8
 
 -- what is judged of the length and the info block, and with the work buffer's length all that is judged before that buffer is used
@@ -104,9 +110,9 @@ infoRules = wrongLength ∷ noInfoBlock ∷ forbiddenFigure ∷ flagsSet ∷ []
 abbrev pub aloneRules : List OpenRule
 aloneRules = infoRules ++ (shortWork ∷ [])
 
--- what is judged of the flog and the map, over all lanes before all words
+-- what is judged of the flog and the map: 6 over all lanes, 7 over all words, 18 over all words and lanes, and then 8
 abbrev pub mapRules : List OpenRule
-mapRules = lostLane ∷ badWords ∷ notValid ∷ []
+mapRules = lostLane ∷ badWords ∷ sloppyArena ∷ notValid ∷ []
 
 abbrev pub orderOpen : List OpenRule
 orderOpen = aloneRules ++ mapRules
@@ -120,6 +126,7 @@ testsOpen t a room flagsSet = not (flagsAllowed (infoBlockOf a))
 testsOpen t a room shortWork = ltb room ((layoutIn t a) .I)
 testsOpen t a room lostLane = lanesLost (layoutIn t a) a
 testsOpen t a room badWords = wordBad (layoutIn t a) a
+testsOpen t a room sloppyArena = sloppy (layoutIn t a) a
 testsOpen t a room notValid = unsettled (layoutIn t a) a
 
 unfoldable pub openNumber : Told → List ℕ → ℕ → ℕ

@@ -11,7 +11,7 @@ pub data Call : Type 0 where
   step : ℕ → List ℕ → Call
   write : ℕ → ℕ → List ℕ → Call
 
--- a condition of document 01's table, of the lane, sector or length of a buffer that it speaks of
+-- a condition of document 01's table, or 18 of a sloppy map word, of the lane, sector or length of a buffer that it speaks of
 pub data Rule : Type 0 where
   badHandle : Rule
   noSuchSector : ℕ → Rule
@@ -21,6 +21,7 @@ pub data Rule : Type 0 where
   laneIdle : ℕ → Rule
   sectorBusy : ℕ → Rule
   badMapWord : ℕ → Rule
+  sloppyMapWord : ℕ → Rule
   badSector : ℕ → Rule
 
 abbrev pub number : Rule → ℕ
@@ -32,10 +33,12 @@ number (laneBusy l) = 12
 number (laneIdle l) = 14
 number (sectorBusy s) = 13
 number (badMapWord s) = 7
+number (sloppyMapWord s) = 18
 number (badSector s) = 15
 
 abbrev pub order : Call → List Rule
-order (read s b) = badHandle ∷ noSuchSector s ∷ wrongBuffer (length b) ∷ badMapWord s ∷ badSector s ∷ []
-order (start l s) = badHandle ∷ noSuchLane l ∷ laneBusy l ∷ noSuchSector s ∷ sectorBusy s ∷ badMapWord s ∷ []
+order (read s b) = badHandle ∷ noSuchSector s ∷ wrongBuffer (length b) ∷ badMapWord s ∷ sloppyMapWord s ∷ badSector s ∷ []
+order (start l s) = badHandle ∷ noSuchLane l ∷ laneBusy l ∷ noSuchSector s ∷ sectorBusy s ∷ badMapWord s ∷ sloppyMapWord s ∷ []
 order (step l b) = badHandle ∷ noSuchLane l ∷ laneIdle l ∷ wrongBuffer (length b) ∷ []
-order (write l s b) = badHandle ∷ noSuchLane l ∷ laneBusy l ∷ noSuchSector s ∷ wrongBuffer (length b) ∷ sectorBusy s ∷ badMapWord s ∷ []
+order (write l s b) =
+    badHandle ∷ noSuchLane l ∷ laneBusy l ∷ noSuchSector s ∷ wrongBuffer (length b) ∷ sectorBusy s ∷ badMapWord s ∷ sloppyMapWord s ∷ []

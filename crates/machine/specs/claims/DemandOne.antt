@@ -40,7 +40,7 @@ pub record DemandOne : Type 0 where
   -- making: 3, 1, 10
   pub making : MakingClaim
   pub info-block : (a : List ℕ) → Small a → InfoBlockShown a
-  -- opening: 1 to 8; refused, it gives a handle of zeroes
+  -- opening: 1 to 8 and 18; refused, it gives a handle of zeroes
   pub opening : OpeningClaim
   pub cut-opening : (a work : List ℕ) (k : ℕ) → Small a → CutOpening a work k
   -- read, start, step and whole write: 16 first, then each its own

@@ -1,5 +1,5 @@
 -- A run that the claims speak of: two writes interleaved, of which one is unfinished and one lacks only its map word, a refused start and
--- a whole write, on the made arena of case 9; and that arena with the flags of another driver.
+-- a whole write, on the made arena of case 9; that arena with the flags of another driver; and that arena with what rule 18 refuses.
 use mathlib.Core.Path.{_≡_}
 use mathlib.Core.List.{List, [], _∷_, _++_, map}
 use Prim.Native.Nat.{ℕ, _+_}
@@ -7,10 +7,11 @@ use lib.ListN.{length, replicate}
 use Rattle.words.specs.Word.{putWord}
 use Rattle.words.specs.Bytes.{Small}
 use Rattle.layout.specs.Told.{alone}
-use Rattle.machine.specs.state.Handle.{noHandle}
+use Rattle.machine.specs.state.Handle.{Handle, noHandle}
 use Rattle.machine.specs.calls.Making.{Wanted, makeOf}
 use Rattle.machine.specs.calls.Opening.{figuresIn, openOf}
 use Rattle.machine.specs.calls.Reading.{readOf}
+use Rattle.machine.specs.calls.Writing.{startOf, writeOf}
 use Rattle.machine.specs.calls.History.{Call, read, start, step, write, State, run, reply, called, opened, openedFrom, SmallEvents}
 use Rattle.machine.specs.calls.Asides.{Happening, latest, aside, shortened, latestOf, AllHarmless}
 use Rattle.machine.specs.models.Row.{OneBuffer, firstRow}
@@ -62,6 +63,22 @@ pub record ReadByFlags (a work : List ℕ) : Type 0 where
   pub bad-sector : (buffer : List ℕ) → length buffer ≡ 512
       → readOf ((openOf alone a work) .arena) ((openOf alone a work) .handle) 6 buffer ≡ record { number = 15; buffer = buffer }
 
+-- the same arena with 5 as the map word of sector 7 (byte 36,892), and with 1 as byte 63 of lane 3 (byte 41,215)
+abbrev pub exhibitSloppy : List ℕ
+exhibitSloppy = putWord exhibitFound 9223 0x00000005
+
+abbrev pub exhibitPadded : List ℕ
+exhibitPadded = putWord exhibitFound 10303 0x01000000
+
+-- neither opens; through a handle h of the arena as it was, sector 7 is refused while its word is sloppy, and padding is not looked at
+pub record RefusedSloppy (worded padded work : List ℕ) (h : Handle) : Type 0 where
+  pub word : (openOf alone worded work) .number ≡ 18
+  pub padding : (openOf alone padded work) .number ≡ 18
+  pub read : (buffer : List ℕ) → length buffer ≡ 512 → (readOf worded h 7 buffer) .number ≡ 18
+  pub start : (startOf worded h 0 7) .number ≡ 18
+  pub write : (buffer : List ℕ) → length buffer ≡ 512 → (writeOf worded h 0 7 buffer) .number ≡ 18
+  pub padded-read : (buffer : List ℕ) → length buffer ≡ 512 → (readOf padded h 7 buffer) .number ≡ 0
+
 pub record Exhibited : Type 0 where
   -- the premises of demand 2
   pub small : Small exhibitFound
@@ -83,3 +100,5 @@ pub record Exhibited : Type 0 where
   pub mended : (openOf alone ((run exhibitState exhibitCalls) .arena) exhibitWork) .mended ≡ 1
   -- flags that no call of ours stores
   pub marked : ReadByFlags exhibitMarked exhibitWork
+  -- what 18 refuses
+  pub sloppy : RefusedSloppy exhibitSloppy exhibitPadded exhibitWork (exhibitState .handle)

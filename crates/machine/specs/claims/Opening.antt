@@ -23,6 +23,7 @@ use Rattle.machine.specs.calls.Opening.{
   shortWork,
   lostLane,
   badWords,
+  sloppyArena,
   notValid,
   numberOpen,
   orderOpen,
@@ -52,7 +53,7 @@ pub record RefusedOpening (a : List ℕ) (o : Opening) : Type 0 where
 -- what speaks of the layout goes by what the opening is told
 module _ (t : Told) where
   -- opening answers 0 exactly if the arena is valid and the work buffer has I bytes or more;
-  -- each of 1 to 8 is given exactly when its condition holds and none before it in the row does
+  -- each of 1 to 8 and 18 is given exactly when its condition holds and none before it in the row does
   pub record OpeningAnswers (a work : List ℕ) : Type 0 where
     pub answers : AnswersOpen t a (length work) ((openOf t a work) .number)
     pub accepts : (openOf t a work) .number ≡ 0 → Valid t a × ((layoutIn t a) .I ≤ length work)
@@ -139,9 +140,10 @@ MendedUpTo a k after = MendedFor (λ l. PendingIn a l × (pendingBelow a l < k))
 
 -- all of it, for any bytes lent as an arena and any work buffers
 pub record OpeningClaimFor (t : Told) : Type 0 where
-  -- 1 to 8 in order
+  -- 1 to 8 in order, 18 after 7
   pub order : line numberOpen orderOpen
-      ≡ (1, wrongLength) ∷ (2, noInfoBlock) ∷ (3, forbiddenFigure) ∷ (4, flagsSet) ∷ (5, shortWork) ∷ (6, lostLane) ∷ (7, badWords) ∷ (8, notValid) ∷ []
+      ≡ (1, wrongLength) ∷ (2, noInfoBlock) ∷ (3, forbiddenFigure) ∷ (4, flagsSet) ∷ (5, shortWork) ∷ (6, lostLane) ∷ (7, badWords)
+      ∷ (18, sloppyArena) ∷ (8, notValid) ∷ []
   pub answers : (a work : List ℕ) → Small a → OpeningAnswers t a work
   pub refused : (a work : List ℕ) → (openOf t a work) .number ≢ 0 → RefusedOpening a (openOf t a work)
   pub refused-cut : (a work : List ℕ) (k : ℕ) → (openOf t a work) .number ≢ 0 → RefusedOpening a (cutOpenOf t a work k)

@@ -19,6 +19,7 @@ use Rattle.machine.specs.calls.Order.{
   laneIdle,
   sectorBusy,
   badMapWord,
+  sloppyMapWord,
   badSector,
   number,
   order,
@@ -34,19 +35,21 @@ pub record AsTheyCame (a : List ℕ) (h : Handle) (o : Outcome) : Type 0 where
 
 -- for any bytes lent as an arena, any handle, lane and sector, and any buffer
 pub record RunningClaim : Type 0 where
-  -- read: 16, 9, 10, 7 (that sector's word), 15
+  -- read: 16, 9, 10, 7 and 18 (that sector's word), 15
   pub read-order : (s : ℕ) (buffer : List ℕ) → line number (order (read s buffer))
-      ≡ (16, badHandle) ∷ (9, noSuchSector s) ∷ (10, wrongBuffer (length buffer)) ∷ (7, badMapWord s) ∷ (15, badSector s) ∷ []
-  -- start: 16, 11, 12, 9, 13, 7
+      ≡ (16, badHandle) ∷ (9, noSuchSector s) ∷ (10, wrongBuffer (length buffer)) ∷ (7, badMapWord s) ∷ (18, sloppyMapWord s)
+      ∷ (15, badSector s) ∷ []
+  -- start: 16, 11, 12, 9, 13, 7, 18
   pub start-order : (l s : ℕ) → line number (order (start l s))
-      ≡ (16, badHandle) ∷ (11, noSuchLane l) ∷ (12, laneBusy l) ∷ (9, noSuchSector s) ∷ (13, sectorBusy s) ∷ (7, badMapWord s) ∷ []
+      ≡ (16, badHandle) ∷ (11, noSuchLane l) ∷ (12, laneBusy l) ∷ (9, noSuchSector s) ∷ (13, sectorBusy s) ∷ (7, badMapWord s)
+      ∷ (18, sloppyMapWord s) ∷ []
   -- step: 16, 11, 14, 10
   pub step-order : (l : ℕ) (buffer : List ℕ) → line number (order (step l buffer))
       ≡ (16, badHandle) ∷ (11, noSuchLane l) ∷ (14, laneIdle l) ∷ (10, wrongBuffer (length buffer)) ∷ []
   -- whole write: as start, with 10 after 9
   pub write-order : (l s : ℕ) (buffer : List ℕ) → line number (order (write l s buffer))
       ≡ (16, badHandle) ∷ (11, noSuchLane l) ∷ (12, laneBusy l) ∷ (9, noSuchSector s) ∷ (10, wrongBuffer (length buffer))
-      ∷ (13, sectorBusy s) ∷ (7, badMapWord s) ∷ []
+      ∷ (13, sectorBusy s) ∷ (7, badMapWord s) ∷ (18, sloppyMapWord s) ∷ []
   -- the first rule that applies, in words, gives the answer
   pub read : (a : List ℕ) (h : Handle) (s : ℕ) (buffer : List ℕ) → Answers a h (read s buffer) ((readOf a h s buffer) .number)
   pub start : (a : List ℕ) (h : Handle) (l s : ℕ) → Answers a h (start l s) ((startOf a h l s) .number)

@@ -1,8 +1,8 @@
 -- The claim about what the calls leave in the map: each word is what it was, or flags 11 and a block, and making leaves zeroes. So the
--- flags that we write are 00 and 11 only.
+-- flags that we write are 00 and 11 only, and no history of ours leads to 18.
 use mathlib.Core.Path.{_≡_}
-use mathlib.Core.Logic.{_⊎_}
-use mathlib.Core.List.{List}
+use mathlib.Core.Logic.{_≢_, _⊎_}
+use mathlib.Core.List.{List, List·Memᴰ}
 use Prim.Native.Nat.{ℕ, _+_, _≤_, _<_}
 use lib.ListN.{length}
 use Rattle.words.specs.Bytes.{Small}
@@ -13,9 +13,10 @@ use Rattle.machine.specs.state.Handle.{Handle}
 use Rattle.machine.specs.calls.Order.{Call}
 use Rattle.machine.specs.calls.Making.{Wanted, makeOf}
 use Rattle.machine.specs.calls.Opening.{figuresIn, openOf, cutOpenOf}
-use Rattle.machine.specs.calls.History.{after, openedFrom, SmallEvents}
-use Rattle.machine.specs.calls.Asides.{Happening, latestOf, AllHarmless}
+use Rattle.machine.specs.calls.History.{after, Reply, openedFrom, SmallEvents}
+use Rattle.machine.specs.calls.Asides.{Happening, latestOf, AllHarmless, heard}
 use Rattle.machine.specs.words.InBytes.{mapWordIn}
+use Rattle.machine.specs.words.Valid.{Clean}
 use Rattle.machine.specs.claims.DemandTwo.{leaves}
 
 -- the map word is what it was, or 0xC0000000 + b with b < I
@@ -25,6 +26,11 @@ KeptOrMapped blocks was is = (is ≡ was) ⊎ ((b : ℕ) × (b < blocks) × (is 
 -- so is every sector's
 abbrev pub MapKept : Figures → List ℕ → List ℕ → Type 0
 MapKept f a after = (s : ℕ) → s < f .sectors → KeptOrMapped (f .blocks) (mapWordIn f a s) (mapWordIn f after s)
+
+-- an arena that was opened passes 18 after any history, and nothing in the history answers 18
+pub record StaysClean (a work : List ℕ) (hs : List Happening) : Type 0 where
+  pub clean : Clean 16 (figuresIn a) ((leaves alone a work hs) .arena)
+  pub never : (r : Reply) → List·Memᴰ r (heard alone (openedFrom alone a work) hs) → r .number ≢ 18
 
 pub record WrittenWords : Type 0 where
   -- read, start, step and whole write, accepted or refused, on any bytes and with any handle
@@ -41,3 +47,6 @@ pub record WrittenWords : Type 0 where
       → (s : ℕ) → s < o .sectors
       → KeptOrMapped (o .sectors + o .lanes) 0
       (mapWordIn (freshFigures (o .size) (o .sectors) (o .lanes)) ((leaves alone ((makeOf o a) .arena) work hs) .arena) s)
+  -- what opens, as a made arena does, stays clean
+  pub stays-clean : (a work : List ℕ) (hs : List Happening) → Small a → SmallEvents (latestOf hs) → (openOf alone a work) .number ≡ 0
+      → AllHarmless alone (openedFrom alone a work) hs → StaysClean a work hs

@@ -19,6 +19,7 @@ use Rattle.machine.specs.calls.Order.{
   laneIdle,
   sectorBusy,
   badMapWord,
+  sloppyMapWord,
   badSector,
   number,
   order,
@@ -79,7 +80,7 @@ module _ (t : Told) (a : List ℕ) where
 
   -- ---- answers
 
-  -- what each rule tests in the book; 16 and 7 never apply, and a sector is bad that is so in the first arena and has no finished write
+  -- what each rule tests in the book; 16, 7 and 18 never apply, and a sector is bad that is so in the first arena and has no finished write
   abbrev pub bookTests : List Entry → Rule → Bool
   bookTests b badHandle = false
   bookTests b (noSuchSector s) = leb ((figuresIn a) .sectors) s
@@ -89,6 +90,7 @@ module _ (t : Told) (a : List ℕ) where
   bookTests b (laneIdle l) = not (laneFlies b l)
   bookTests b (sectorBusy s) = sectorFlies b s
   bookTests b (badMapWord s) = false
+  bookTests b (sloppyMapWord s) = false
   bookTests b (badSector s) = not (sectorDone b s) && badBits (mapWord (layoutIn t a) a s)
 
   unfoldable pub bookNumber : List Entry → Call → ℕ

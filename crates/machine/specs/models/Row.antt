@@ -18,6 +18,7 @@ use Rattle.machine.specs.calls.Order.{
   laneIdle,
   sectorBusy,
   badMapWord,
+  sloppyMapWord,
   badSector,
   number,
   order,
@@ -31,6 +32,7 @@ use Rattle.machine.specs.calls.Opening.{
   shortWork,
   lostLane,
   badWords,
+  sloppyArena,
   notValid,
   numberOpen,
   orderOpen,
@@ -94,7 +96,7 @@ abbrev pub lacksLast : Figures → Flight → Bool
 lacksLast f idle = false
 lacksLast f (flying s made bytes) = eqb (made + 1) (storesOf f)
 
--- what each rule tests in the row; 16 and 7 never apply
+-- what each rule tests in the row; 16, 7 and 18 never apply
 abbrev pub rowTests : Figures → Row → Rule → Bool
 rowTests f row badHandle = false
 rowTests f row (noSuchSector s) = leb (f .sectors) s
@@ -104,6 +106,7 @@ rowTests f row (laneBusy l) = isFlying (row .lane l)
 rowTests f row (laneIdle l) = not (isFlying (row .lane l))
 rowTests f row (sectorBusy s) = some (f .lanes) (λ j. fliesTo s (row .lane j))
 rowTests f row (badMapWord s) = false
+rowTests f row (sloppyMapWord s) = false
 rowTests f row (badSector s) = isBad (row .sector s)
 
 unfoldable pub rowNumber : Figures → Row → Call → ℕ
@@ -190,6 +193,7 @@ rowOpenTests f room flagsSet = false
 rowOpenTests f room shortWork = ltb room (f .blocks)
 rowOpenTests f room lostLane = false
 rowOpenTests f room badWords = false
+rowOpenTests f room sloppyArena = false
 rowOpenTests f room notValid = false
 
 unfoldable pub rowOpenNumber : Figures → ℕ → ℕ

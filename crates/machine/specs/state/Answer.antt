@@ -19,6 +19,7 @@ use Rattle.machine.specs.declared.answer.Answer.the-variants.{
   LaneIdle,
   BadSector,
   BadHandle,
+  Sloppy,
   BadRecord,
 }
 
@@ -40,4 +41,5 @@ numberOf SectorBusy = 13
 numberOf LaneIdle = 14
 numberOf BadSector = 15
 numberOf BadHandle = 16
+numberOf Sloppy = 18
 numberOf BadRecord = 20

@@ -1,13 +1,14 @@
 -- What an arena's map and flog say, as found.
-use mathlib.Core.Bool.{Bool, cond}
+use mathlib.Core.Bool.{Bool, cond, not, _&&_}
 use mathlib.Core.List.{List}
 use Prim.Native.Nat.{ℕ}
 use lib.Dec.{eqb}
 use Rattle.words.specs.Word.{word}
+use Rattle.format.specs.Tests.{some}
 use Rattle.format.specs.Sequence.{newer}
 use Rattle.format.specs.Flog.{halfAt}
 use Rattle.format.specs.MapWord.{blockOf}
-use Rattle.layout.specs.Place.{Layout, inMap, inFlog, at}
+use Rattle.layout.specs.Place.{Layout, inMap, inFlog, at, laneWordAt, isPadding}
 use Rattle.format.specs.declared.flog.Half.{Half}
 
 -- a sector's map word, and the block that it stands for
@@ -44,3 +45,11 @@ newerFlog g a l = halfAt a (at g (inFlog l (newerHalf g a l) 0))
 -- a lane's spare block, which the map as found does not have: new of a pending lane, else old
 unfoldable pub spareOf : Layout → List ℕ → ℕ → ℕ
 spareOf g a l = cond (pending g a l) (newerWord g a l 2) (freeOf g a l)
+
+-- word k of a lane's 16
+abbrev pub laneWord : Layout → List ℕ → ℕ → ℕ → ℕ
+laneWord g a l k = word a (laneWordAt g l k)
+
+-- some word of a lane's padding is not zero
+unfoldable pub paddingSet : Layout → List ℕ → ℕ → Bool
+paddingSet g a l = some 16 (λ k. isPadding (g .D) k && not (eqb (laneWord g a l k) 0))

@@ -18,6 +18,10 @@ flogByte f l h k = f .flogoff + 64 * l + 16 * h + 4 * k
 abbrev pub mapByte : Figures → ℕ → ℕ
 mapByte f s = f .mapoff + 4 * s
 
+-- byte j of the 64 of lane l
+abbrev pub laneByte : Figures → ℕ → ℕ → ℕ
+laneByte f l j = f .flogoff + 64 * l + j
+
 -- the map word of sector s
 abbrev pub mapWordIn : Figures → List ℕ → ℕ → ℕ
 mapWordIn f a s = byteWord a (mapByte f s)

@@ -4,7 +4,7 @@ use mathlib.Core.Logic.{_≢_, _⊎_}
 use mathlib.Core.List.{List}
 use Prim.Native.Nat.{ℕ, _+_, _≤_, _<_}
 use lib.ListN.{length}
-use Rattle.format.specs.Claims.{Bit30Alone, BadWord}
+use Rattle.format.specs.Claims.{Bit30Alone, BadWord, SloppyWord}
 use Rattle.layout.specs.Figures.{Allowed}
 use Rattle.layout.specs.Place.{Layout}
 use Rattle.machine.specs.declared.lane.Lane.{Lane}
@@ -20,6 +20,7 @@ use Rattle.machine.specs.calls.Order.{
   laneIdle,
   sectorBusy,
   badMapWord,
+  sloppyMapWord,
   badSector,
   number,
   order,
@@ -61,6 +62,7 @@ Holds a h (laneBusy l) = (laneAt (h .lanes) l) .busy ≢ 0
 Holds a h (laneIdle l) = (laneAt (h .lanes) l) .busy ≡ 0
 Holds a h (sectorBusy s) = InFlight (h .lanes) (h .figures .lanes) s
 Holds a h (badMapWord s) = BadWord (h .figures .blocks) (mapWord (laidOut h) a s)
+Holds a h (sloppyMapWord s) = SloppyWord (mapWord (laidOut h) a s)
 Holds a h (badSector s) = Bit30Alone (mapWord (laidOut h) a s)
 
 -- n is the answer of a call by its line of the table

@@ -8,7 +8,7 @@ use lib.Dec.{ltb}
 use lib.ListN.{length, getD, take, drop, replicate}
 use Rattle.words.specs.Bytes.{byteWord}
 use Rattle.format.specs.Sequence.{successor}
-use Rattle.format.specs.Claims.{NeitherBit, Bit30Alone, Bit31Alone, BothBits, namedBlock}
+use Rattle.format.specs.Claims.{Bit30Alone, Bit31Alone, BothBits, namedBlock, SloppyWord}
 use Rattle.layout.specs.declared.Figures.{Figures}
 use Rattle.machine.specs.declared.lane.Lane.{Lane}
 use Rattle.machine.specs.state.Handle.{Handle, laneAt}
@@ -83,11 +83,12 @@ pub record WriteTable (a : List ℕ) (h : Handle) (l s : ℕ) (buffer : List ℕ
   pub arena : o .arena ≡ (afterSteps (h .figures .size / 4 + 5) a ((startOf a h l s) .handle) l buffer) .arena
   pub handle : o .handle ≡ (afterSteps (h .figures .size / 4 + 5) a ((startOf a h l s) .handle) l buffer) .handle
 
--- an accepted read goes by the sector's map word: zeroes where it has neither bit or bit 31 alone, the bytes of the block in its low bits
--- where it has both; with bit 30 alone it is never accepted
+-- an accepted read goes by the sector's map word: zeroes where it is 0 or has bit 31 alone, the bytes of the block in its low bits where
+-- it has both; with bit 30 alone, or with neither and not 0, it is never accepted
 pub record ReadTable (a : List ℕ) (h : Handle) (s : ℕ) (r : Read) : Type 0 where
-  pub unwritten : NeitherBit (mapWordIn (h .figures) a s) → r .buffer ≡ replicate (h .figures .size) 0
+  pub unwritten : mapWordIn (h .figures) a s ≡ 0 → r .buffer ≡ replicate (h .figures .size) 0
   pub zeroed : Bit31Alone (mapWordIn (h .figures) a s) → r .buffer ≡ replicate (h .figures .size) 0
   pub not-bad : Bit30Alone (mapWordIn (h .figures) a s) → ⊥
+  pub not-sloppy : SloppyWord (mapWordIn (h .figures) a s) → ⊥
   pub bytes : BothBits (mapWordIn (h .figures) a s)
       → r .buffer ≡ take (h .figures .size) (drop (h .figures .dataoff + (mapWordIn (h .figures) a s - 0xC0000000) * h .figures .internal) a)

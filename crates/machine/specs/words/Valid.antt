@@ -1,16 +1,17 @@
 -- What document 01 calls a valid arena, and the conditions of its table of refusals, as propositions in its words.
 use mathlib.Core.Path.{_≡_}
-use mathlib.Core.Logic.{_≢_}
+use mathlib.Core.Logic.{_≢_, _⊎_}
 use mathlib.Core.Bool.{cond}
 use mathlib.Core.List.{List}
 use Prim.Native.Nat.{ℕ, _+_, _-_, _<_}
 use lib.Dec.{ltb}
-use lib.ListN.{length, take, drop}
+use lib.ListN.{length, getD, take, drop}
 use Rattle.words.specs.Bytes.{byteWord}
-use Rattle.format.specs.Claims.{BadWord}
+use Rattle.format.specs.Claims.{BadWord, SloppyWord}
 use Rattle.layout.specs.Figures.{Allowed, freshLength}
-use Rattle.layout.specs.Claims.{Length, Sizes}
+use Rattle.layout.specs.Claims.{Length, Sizes, InPadding}
 use Rattle.layout.specs.Place.{Layout}
+use Rattle.layout.specs.declared.Figures.{Figures}
 use Rattle.layout.specs.declared.Told.{Told}
 use Rattle.infoblock.specs.Info.{infoBlockOf, figuresOf}
 use Rattle.infoblock.specs.Claims.{Header, Sound}
@@ -18,6 +19,7 @@ use Rattle.machine.specs.Rules.{FirstOf}
 use Rattle.machine.specs.state.Flog.{mapWord, mapBlock, newerHalf, newerWord, freeOf}
 use Rattle.machine.specs.calls.Making.{Wanted, MakeRule, wrongSizes, wrongTotal, wrongIdentifier, numberMake, orderMake}
 use Rattle.machine.specs.calls.Opening.{
+  figuresIn,
   layoutIn,
   OpenRule,
   wrongLength,
@@ -27,10 +29,12 @@ use Rattle.machine.specs.calls.Opening.{
   shortWork,
   lostLane,
   badWords,
+  sloppyArena,
   notValid,
   numberOpen,
   orderOpen,
 }
+use Rattle.machine.specs.words.InBytes.{mapWordIn, laneByte}
 
 -- every line of the table, flags apart: version 2 and 0, info size 4,096, the next arena, and the figures
 pub record InfoOk (next : ℕ) (b : List ℕ) (n : ℕ) : Type 0 where
@@ -43,6 +47,15 @@ pub record Readable (g : Layout) (a : List ℕ) (l : ℕ) : Type 0 where
   pub sector : newerWord g a l 0 < g .E
   pub old : newerWord g a l 1 < g .I
   pub new : newerWord g a l 2 < g .I
+
+-- a byte of lane l's padding is not 0, where the halves start d bytes apart
+abbrev pub SloppyLane : ℕ → Figures → List ℕ → ℕ → Type 0
+SloppyLane d f a l = (j : ℕ) × (j < 64) × InPadding d j × (getD a (laneByte f l j) 0 ≢ 0)
+
+-- rule 18 does not apply: no map word is sloppy, and every byte of every lane's padding is 0
+pub record Clean (d : ℕ) (f : Figures) (a : List ℕ) : Type 0 where
+  pub words : (s : ℕ) → s < f .sectors → SloppyWord (mapWordIn f a s) → ⊥
+  pub padding : (l j : ℕ) → l < f .lanes → j < 64 → InPadding d j → getD a (laneByte f l j) 0 ≡ 0
 
 -- the block of map[sector] equals old
 abbrev pub Pending : Layout → List ℕ → ℕ → Type 0
@@ -74,7 +87,7 @@ pub record Settled (g : Layout) (a : List ℕ) : Type 0 where
   pub mended : (s : ℕ) → s < g .E → MendedBlock g a s (mapped s)
   pub once : EachOnce g mapped (freeOf g a)
 
--- an arena that passes 1 to 4, 6 and 7 and is settled (5 is about the work buffer)
+-- an arena that passes 1 to 4, 6, 7 and 18 and is settled (5 is about the work buffer)
 pub record Valid (t : Told) (a : List ℕ) : Type 0 where
   pub size : Length (length a)
   pub info : Sound (infoBlockOf a)
@@ -82,6 +95,7 @@ pub record Valid (t : Told) (a : List ℕ) : Type 0 where
   pub flags : byteWord (infoBlockOf a) 48 ≡ 0
   pub lanes : (l : ℕ) → l < (layoutIn t a) .N → Readable (layoutIn t a) a l
   pub words : (s : ℕ) → s < (layoutIn t a) .E → BadWord ((layoutIn t a) .I) (mapWord (layoutIn t a) a s) → ⊥
+  pub clean : Clean (t .distance) (figuresIn a) a
   pub settled : Settled (layoutIn t a) a
 
 -- ---- the rules of opening and of making in words
@@ -95,6 +109,9 @@ HoldsOpen t a room flagsSet = byteWord (infoBlockOf a) 48 ≢ 0
 HoldsOpen t a room shortWork = room < (layoutIn t a) .I
 HoldsOpen t a room lostLane = (l : ℕ) × (l < (layoutIn t a) .N) × (Readable (layoutIn t a) a l → ⊥)
 HoldsOpen t a room badWords = (s : ℕ) × (s < (layoutIn t a) .E) × BadWord ((layoutIn t a) .I) (mapWord (layoutIn t a) a s)
+HoldsOpen t a room sloppyArena =
+    ((s : ℕ) × (s < (figuresIn a) .sectors) × SloppyWord (mapWordIn (figuresIn a) a s))
+    ⊎ ((l : ℕ) × (l < (figuresIn a) .lanes) × SloppyLane (t .distance) (figuresIn a) a l)
 HoldsOpen t a room notValid = Settled (layoutIn t a) a → ⊥
 
 -- n is the answer of an opening by its line of the table

@@ -3,12 +3,14 @@ use mathlib.Core.Path.{sym, ap, _∙_}
 use mathlib.Core.Bool.{not}
 use native.Mathlib.Omega.{arith}
 use borrow.Author.Tests.{not-false, le-leb, lt-leb}
+use Rattle.format.specs.MapWord.{badWord, sloppyWord}
+use Rattle.format.proofs.MapWord.{fault-bad, fault-in, fault-sloppy, fault-clean}
 use Rattle.layout.specs.Told.{alone}
 use Rattle.lanes.proofs.Lanes.{map-fit}
 use Rattle.machine.proofs.rules.Rules.{stop, pass, through}
 use Rattle.machine.proofs.rules.Running.{call-walk}
 use Rattle.machine.proofs.calls.Running.{handle-fit}
-use Rattle.writing.proofs.Rules.{busy-taken, word-test}
+use Rattle.writing.proofs.Rules.{busy-taken}
 use borrow.Author.Needs.{needs}
 use Rattle.writing.proofs.judge_write.Statement.{statement}
 use Rattle.writing.proofs.judge_write.Tie as tie
@@ -117,12 +119,13 @@ map-word-requires c κs =
     let h = e1 .before .handle-allowed .ensures in
     (map-fit _ _ _ (handle-fit _ _ (sym h ∙ not-false _ (e1 .if1 .left))), e4 .if4 .left)
 
-bad-word-requires : tie.Need-bad-word-requires
-bad-word-requires c κs = search needs
+word-fault-requires : tie.Need-word-fault-requires
+word-fault-requires c κs = search needs
 
 returns-7 : tie.Need-returns-7
 returns-7 c =
-    let at-map-word = c .before .before in
+    let at-word-fault = c .before in
+    let at-map-word = at-word-fault .before in
     let e6 = at-map-word .before in
     let e5 = e6 .before .before in
     let e4 = e5 .before in
@@ -137,13 +140,18 @@ returns-7 c =
     let k = lt-leb _ _ (e2 .if2 .left) in
     let g = sym (e6 .before .in-flight .ensures) ∙ e6 .if6 .left in
     let m = at-map-word .map-word .ensures (alone .distance) in
-    let w = word-test _ _ _ _ _ m (c .before .bad-word .ensures) (c .if7 .taken) in
+    let blocks = z .args .t2 .figures .blocks in
+    let word = at-map-word .map-word .result in
+    let bad = ap (badWord blocks) (sym m) in
+    let w = bad ∙ fault-bad blocks word _ (at-word-fault .word-fault .ensures) (c .if7 .taken) in
     λ bytes n. call-walk _ _ _
     (pass e (pass k (pass b (pass (lt-leb _ _ (e4 .if4 .left)) (pass (ap not (sym n) ∙ e5 .if5 .left) (pass g (stop w)))))))
 
 returns-8 : tie.Need-returns-8
 returns-8 c =
-    let at-map-word = c .before .before in
+    let e7 = c .before in
+    let at-word-fault = e7 .before in
+    let at-map-word = at-word-fault .before in
     let e6 = at-map-word .before in
     let e5 = e6 .before .before in
     let e4 = e5 .before in
@@ -158,9 +166,42 @@ returns-8 c =
     let k = lt-leb _ _ (e2 .if2 .left) in
     let g = sym (e6 .before .in-flight .ensures) ∙ e6 .if6 .left in
     let m = at-map-word .map-word .ensures (alone .distance) in
-    let w = word-test _ _ _ _ _ m (c .before .bad-word .ensures) (c .if7 .left) in
+    let blocks = z .args .t2 .figures .blocks in
+    let word = at-map-word .map-word .result in
+    let bad = ap (badWord blocks) (sym m) in
+    let q = at-word-fault .word-fault .ensures in
+    let w = bad ∙ fault-in blocks word _ q (e7 .if7 .left) in
+    let y = ap sloppyWord (sym m) ∙ fault-sloppy blocks word _ q (c .if8 .taken) in
     λ bytes n. call-walk _ _ _
-    (pass e (pass k (pass b (pass (lt-leb _ _ (e4 .if4 .left)) (pass (ap not (sym n) ∙ e5 .if5 .left) (pass g (pass w through)))))))
+    (pass e (pass k (pass b (pass (lt-leb _ _ (e4 .if4 .left)) (pass (ap not (sym n) ∙ e5 .if5 .left) (pass g (pass w (stop y))))))))
+
+returns-9 : tie.Need-returns-9
+returns-9 c =
+    let e7 = c .before in
+    let at-word-fault = e7 .before in
+    let at-map-word = at-word-fault .before in
+    let e6 = at-map-word .before in
+    let e5 = e6 .before .before in
+    let e4 = e5 .before in
+    let e3 = e4 .before .before .before in
+    let e2 = e3 .before .before .before .before in
+    let e1 = e2 .before .before .before .before in
+    let h = e1 .before .handle-allowed .ensures in
+    let e = ap not (sym h) ∙ e1 .if1 .left in
+    let z = e1 .before .before .before in
+    let r = busy-taken (z .args .t2 .lanes) (z .args .t2 .figures .lanes) (z .args .lane .0) (e2 .if2 .left) _ _ in
+    let b = r (e3 .before .is-busy .ensures) (e3 .if3 .left) in
+    let k = lt-leb _ _ (e2 .if2 .left) in
+    let g = sym (e6 .before .in-flight .ensures) ∙ e6 .if6 .left in
+    let m = at-map-word .map-word .ensures (alone .distance) in
+    let blocks = z .args .t2 .figures .blocks in
+    let word = at-map-word .map-word .result in
+    let bad = ap (badWord blocks) (sym m) in
+    let q = at-word-fault .word-fault .ensures in
+    let w = bad ∙ fault-in blocks word _ q (e7 .if7 .left) in
+    let y = ap sloppyWord (sym m) ∙ fault-clean blocks word _ q (e7 .if7 .left) (c .if8 .left) in
+    λ bytes n. call-walk _ _ _
+    (pass e (pass k (pass b (pass (lt-leb _ _ (e4 .if4 .left)) (pass (ap not (sym n) ∙ e5 .if5 .left) (pass g (pass w (pass y through))))))))
 
 pub judge-write-spec : {M : Type 1} → statement M
 judge-write-spec =
@@ -179,6 +220,7 @@ judge-write-spec =
     in-flight-requires
     returns-6
     map-word-requires
-    bad-word-requires
+    word-fault-requires
     returns-7
-    returns-8)
+    returns-8
+    returns-9)

@@ -121,6 +121,12 @@ pub fn half_at(f: &Handle, lane: u32, half: u32) -> usize {
     f.flog as usize + 64 * lane as usize + 16 * half as usize
 }
 
+/// The padding of a lane: those of its 64 bytes that are in neither half.
+pub fn padding<'a>(arena: &'a [u8], f: &Handle, lane: u32) -> &'a [u8] {
+    let start = f.flog as usize + 64 * lane as usize;
+    &arena[start + 32..start + 64]
+}
+
 /// The block that a sector's map word stands for.
 pub fn block_of(sector: u32, word: u32) -> u32 {
     if word >> 30 == 0 {
@@ -133,6 +139,11 @@ pub fn block_of(sector: u32, word: u32) -> u32 {
 /// Whether a map word names a block past the last.
 pub fn bad_word(f: &Handle, word: u32) -> bool {
     word >> 30 != 0 && word & BLOCK_BITS >= f.blocks
+}
+
+/// Whether a map word has neither flag and yet is not 0.
+pub fn sloppy_word(word: u32) -> bool {
+    word >> 30 == 0 && word != 0
 }
 
 /// The sequence number after one of 1 to 3.

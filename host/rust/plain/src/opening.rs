@@ -2,7 +2,7 @@
 use crate::bytes::{put_word, word, words};
 use crate::format::{
     bad_word, block_of, counting, figures_allowed, figures_of, flags_of, half_at, header_allowed, length_allowed, map_at, mapped,
-    newer, successor,
+    newer, padding, sloppy_word, successor,
 };
 use crate::require;
 use btt::{Answer, Handle, Lane, Opened, INFO_SIZE, MAX_LANES};
@@ -52,6 +52,17 @@ fn judge_info(arena: &[u8]) -> Result<Handle, Answer> {
     Ok(figures)
 }
 
+/// Rule 7 over all map words, and then rule 18 over them and all lanes.
+fn judge_words(arena: &[u8], figures: &Handle, map: &[u8]) -> Result<(), Answer> {
+    let mut sloppy = false;
+    for word in words(map) {
+        require(!bad_word(figures, word), Answer::BadMapWord)?;
+        sloppy |= sloppy_word(word);
+    }
+    sloppy |= (0..figures.lanes).any(|lane| padding(arena, figures, lane).iter().any(|byte| *byte != 0));
+    require(!sloppy, Answer::Sloppy)
+}
+
 /// Rule 8. A pending lane's old is in the map as found and its new in the mended map, so that its new is marked in the place of its old.
 /// It is kept out of line so that its loop has the registers to itself.
 #[inline(never)]
@@ -71,14 +82,14 @@ fn each_block_once(map: &[u8], lanes: &[Newer], marks: &mut [u8]) -> bool {
     once && !lanes.iter().enumerate().any(|(i, lane)| lanes[..i].iter().any(|other| same(lane, other)))
 }
 
-/// Rules 6 to 8.
+/// Rules 6, 7, 18 and 8.
 fn judge_map(arena: &[u8], figures: &Handle, marks: &mut [u8]) -> Result<[Newer; MAX_LANES], Answer> {
     let mut lanes = [Newer::default(); MAX_LANES];
     for lane in 0..figures.lanes {
         lanes[lane as usize] = Newer::of_lane(arena, figures, lane)?;
     }
     let map = &arena[figures.map as usize..][..4 * figures.sectors as usize];
-    require(!words(map).any(|word| bad_word(figures, word)), Answer::BadMapWord)?;
+    judge_words(arena, figures, map)?;
     marks.fill(0);
     require(each_block_once(map, &lanes[..figures.lanes as usize], marks), Answer::NotValid)?;
     Ok(lanes)

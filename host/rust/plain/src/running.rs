@@ -1,6 +1,8 @@
 //! The calls with a handle: reading a sector, and writing one store by store or whole.
 use crate::bytes::{put_word, word};
-use crate::format::{bad_word, block_at, block_of, figures_allowed, half_at, length_allowed, map_at, mapped, successor};
+use crate::format::{
+    bad_word, block_at, block_of, figures_allowed, half_at, length_allowed, map_at, mapped, sloppy_word, successor,
+};
 use crate::require;
 use btt::{Answer, Handle, Lane};
 
@@ -24,10 +26,11 @@ fn records(handle: &Handle, length: usize) -> Result<&[Lane], Answer> {
     Ok(records)
 }
 
-/// A sector's map word: rule 7.
+/// A sector's map word: rules 7 and 18.
 fn map_word(arena: &[u8], handle: &Handle, sector: u32) -> Result<u32, Answer> {
     let found = word(arena, map_at(handle, sector));
     require(!bad_word(handle, found), Answer::BadMapWord)?;
+    require(!sloppy_word(found), Answer::Sloppy)?;
     Ok(found)
 }
 
@@ -47,7 +50,7 @@ pub fn read(arena: &[u8], handle: &Handle, sector: u32, buffer: &mut [u8]) -> Re
     Ok(())
 }
 
-/// The old block of a write that may start: 16, 11, 12, 9, 10, 13, 7.
+/// The old block of a write that may start: 16, 11, 12, 9, 10, 13, 7, 18.
 fn judge_start(arena: &[u8], handle: &Handle, lane: u32, sector: u32, fits: bool) -> Result<u32, Answer> {
     let records = records(handle, arena.len())?;
     let record = records.get(lane as usize).ok_or(Answer::NoSuchLane)?;

@@ -22,13 +22,12 @@ pub fn figures(chance: &mut Chance) -> Handle {
 fn map_word(chance: &mut Chance, sector: usize, block: usize) -> u32 {
     let flags = 1 + chance.below(3) as u32;
     if sector == block && !chance.once_in(4) {
-        let low = if chance.once_in(2) { chance.word() & 0x3FFF_FFFF } else { 0 };
-        return low;
+        return 0;
     }
     flags << 30 | block as u32
 }
 
-/// A valid arena whose lanes are pending now and then.
+/// A valid arena whose lanes are pending now and then; bytes of no part are random.
 pub fn valid(chance: &mut Chance) -> Vec<u8> {
     let f = figures(chance);
     let mut arena = chance.bytes(f.length as usize);
@@ -80,6 +79,7 @@ fn put_lane(chance: &mut Chance, pair: &mut [u8], half: [usize; 3]) {
     }
     put_word(pair, 16 * which + 12, sequence);
     put_word(pair, 16 * (1 - which) + 12, older);
+    pair[32..].fill(0);
 }
 
 /// Both info blocks, one of them spoilt now and then.
@@ -111,6 +111,20 @@ fn telling(chance: &mut Chance, f: &Handle) -> u32 {
     }
 }
 
+/// Makes a map word sloppy, or the padding of a lane; gives the sector, if it was a word.
+pub fn slop(chance: &mut Chance, arena: &mut [u8], f: &Handle) -> Option<u32> {
+    if chance.once_in(2) {
+        let place = f.flog as usize + 64 * chance.below(f.lanes as usize) + 32 + chance.below(32);
+        arena[place] = 1 << chance.below(8);
+        return None;
+    }
+    let sector = chance.below(f.sectors as usize) as u32;
+    let low = [sector, f.blocks.wrapping_sub(1), f.blocks, 1 << chance.below(30), chance.word()];
+    let word = chance.pick(&low) & 0x3FFF_FFFF;
+    put_word(arena, f.map as usize + 4 * sector as usize, word.max(1));
+    Some(sector)
+}
+
 /// Damages an arena at one or two places.
 pub fn damage(chance: &mut Chance, arena: &mut Vec<u8>) {
     for _ in 0..1 + chance.below(2) {
@@ -121,7 +135,7 @@ pub fn damage(chance: &mut Chance, arena: &mut Vec<u8>) {
         let inside =
             |start: u64, unit: u64, count: u32| count > 0 && start.saturating_add(unit * u64::from(count)) <= arena.len() as u64;
         let value = telling(chance, &f);
-        match chance.below(8) {
+        match chance.below(9) {
             0 => damage_info(chance, &mut arena[at..at + 4096], value),
             1 | 2 if inside(f.map, 4, f.sectors) => {
                 let sector = chance.below(f.sectors as usize);
@@ -139,6 +153,9 @@ pub fn damage(chance: &mut Chance, arena: &mut Vec<u8>) {
                 let length =
                     chance.pick(&[0, 1, 4095, 4096, 16384, 20480, arena.len() - 4096, arena.len() + 4096, arena.len() + 1]);
                 arena.resize(length, 0);
+            }
+            8 if inside(f.map, 4, f.sectors) && inside(f.flog, 64, f.lanes) => {
+                slop(chance, arena, &f);
             }
             _ => arena[at..at + 120].copy_within(chance.below(100)..100, 20),
         }

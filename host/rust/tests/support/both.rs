@@ -17,6 +17,13 @@ impl Both {
         Both { arena: arena.into(), plain: arena.to_vec(), handle: Handle::default() }
     }
 
+    /// Changes both arenas alike.
+    pub fn change<T>(&mut self, change: impl FnOnce(&mut [u8]) -> T) -> T {
+        let changed = change(&mut self.arena);
+        self.plain.copy_from_slice(&self.arena);
+        changed
+    }
+
     fn lent(&mut self) -> Arena<'_> {
         Arena::new(&mut self.arena).unwrap()
     }

@@ -108,4 +108,13 @@ fn a_refusal_stores_nothing() {
         assert!(matches!(refused, Err(Problem::Refused(found)) if found == answer));
         assert!(medium.told.is_empty() && medium.bytes == pending());
     }
+    // The map word of sector 59, and padding of lane 0.
+    for at in [36_864 + 4 * 59, 40_960 + 32] {
+        let mut sloppy = pending();
+        sloppy[at] = 1;
+        let mut medium = cut(&sloppy, 1000);
+        let refused = write(&mut sloppy, &mut medium, 7, &[0; 512]);
+        assert!(matches!(refused, Err(Problem::Refused(Answer::Sloppy))));
+        assert!(medium.told.is_empty() && medium.bytes == sloppy);
+    }
 }

@@ -115,7 +115,7 @@ mod tests {
 
     #[test]
     fn map_words_are_read_as_the_table_says() {
-        assert_eq!(state(7, 0x0000_0005), ("zeroes", 7));
+        assert_eq!(state(7, 0x0000_0000), ("zeroes", 7));
         assert_eq!(state(7, 0x4000_0005), ("bad", 5));
         assert_eq!(state(7, 0x8000_0005), ("zeroes", 5));
         assert_eq!(state(7, 0xC000_0005), ("data", 5));
