@@ -33,6 +33,8 @@ use Rattle.machine.specs.calls.Opening.{
   layoutIn,
   lanesLost,
   wordBad,
+  wordSloppy,
+  lanePadded,
   sloppy,
   unsettled,
 }
@@ -42,7 +44,7 @@ use Rattle.machine.proofs.opening.Opens.{some-number-open, lanes-pass}
 use Rattle.machine.proofs.opening.Spare.{rule8}
 use Rattle.lanes.proofs.Lanes.{fit-arena}
 use Rattle.once.specs.Once.{cleared, blocksOnce}
-use Rattle.judge.specs.Judge.{judgedFigures, someSloppy, somePadding, wordsNumber}
+use Rattle.judge.specs.Judge.{judgedFigures, wordsNumber}
 
 -- an arena that passes rules 1 to 4 fits its figures
 pub described-fit : (t : Told) → ToldOk t → (a : List ℕ) → Described t a → Fit (t .distance) (figuresIn a) (length a)
@@ -66,11 +68,11 @@ module _ (t : Told) (a : List ℕ) (f : Figures) (are : f ≡ figuresIn a) where
   abbrev Answered : ℕ → Type 0
   Answered n = (room : ℕ) → n ≡ answer numberOpen (testsOpen t a room) mapRules
 
-  pub words-passed : wordsNumber g a ≡ 0 → (wordBad g a ≡ false) × (someSloppy g a ≡ false)
+  pub words-passed : wordsNumber g a ≡ 0 → (wordBad g a ≡ false) × (wordSloppy g a ≡ false)
   words-passed e = by-bool (wordBad g a) _ (λ p. absurd (omega (arith, rw p at e)))
-      (λ p. by-bool (someSloppy g a) _ (λ q. absurd (omega (arith, rw (p, q) at e))) (λ q. (p, q)))
+      (λ p. by-bool (wordSloppy g a) _ (λ q. absurd (omega (arith, rw (p, q) at e))) (λ q. (p, q)))
 
-  pub passed-clean : wordsNumber g a ≡ 0 → somePadding g a ≡ false → sloppy g a ≡ false
+  pub passed-clean : wordsNumber g a ≡ 0 → lanePadded g a ≡ false → sloppy g a ≡ false
   passed-clean e p = rw (words-passed e .1, p)
 
   pub lost-walk : lanesLost g a ≡ true → Answered 6
@@ -80,16 +82,16 @@ module _ (t : Told) (a : List ℕ) (f : Figures) (are : f ≡ figuresIn a) where
     pub words-walk : (n : ℕ) → n ≡ wordsNumber g a → eqb n 0 ≡ false → Answered n
     words-walk n e z room = by-bool (wordBad g a) _
         (λ p. rw (e, p) (walked (pass (rw (← are) lanes) (stop (rw (← are) p)))))
-        (λ p. by-bool (someSloppy g a) _
-        (λ q. rw (e, p, q) (walked (pass (rw (← are) lanes) (pass (rw (← are) p) (stop (rw (← are) (true-or _ (somePadding g a) (inl q))))))))
+        (λ p. by-bool (wordSloppy g a) _
+        (λ q. rw (e, p, q) (walked (pass (rw (← are) lanes) (pass (rw (← are) p) (stop (rw (← are) (true-or _ (lanePadded g a) (inl q))))))))
         (λ q. absurd (eqb-false n 0 z (e ∙ rw (p, q)))))
 
     module _ (words : wordsNumber g a ≡ 0) where
-      pub padding-walk : somePadding g a ≡ true → Answered 18
+      pub padding-walk : lanePadded g a ≡ true → Answered 18
       padding-walk p room =
-          walked (pass (rw (← are) lanes) (pass (rw (← are) (words-passed words .0)) (stop (rw (← are) (true-or (someSloppy g a) _ (inr p))))))
+          walked (pass (rw (← are) lanes) (pass (rw (← are) (words-passed words .0)) (stop (rw (← are) (true-or (wordSloppy g a) _ (inr p))))))
 
-      module _ (padding : somePadding g a ≡ false) where
+      module _ (padding : lanePadded g a ≡ false) where
         pub invalid-walk : unsettled g a ≡ true → Answered 8
         invalid-walk u room = walked (pass (rw (← are) lanes)
             (pass (rw (← are) (words-passed words .0)) (pass (rw (← are) (passed-clean words padding)) (stop (rw (← are) u)))))

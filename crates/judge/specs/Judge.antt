@@ -1,18 +1,15 @@
 -- Which info block counts in an arena, and the figures that judging gives.
-use mathlib.Core.Bool.{Bool, cond}
+use mathlib.Core.Bool.{cond}
 use mathlib.Core.List.{List}
 use Prim.Native.Nat.{ℕ, _-_}
 use lib.Dec.{eqb}
 use lib.ListN.{length, take, drop}
-use Rattle.format.specs.Tests.{some}
-use Rattle.format.specs.MapWord.{sloppyWord}
 use Rattle.layout.specs.Figures.{lengthAllowed}
 use Rattle.layout.specs.Place.{Layout}
 use Rattle.layout.specs.declared.Figures.{Figures}
 use Rattle.infoblock.specs.Info.{countsOf}
 use Rattle.machine.specs.state.Handle.{noFigures}
-use Rattle.machine.specs.state.Flog.{mapWord, paddingSet}
-use Rattle.machine.specs.calls.Opening.{figuresIn, wordBad}
+use Rattle.machine.specs.calls.Opening.{figuresIn, wordBad, wordSloppy}
 
 -- which of an arena's two info blocks counts: the first (0), the copy (1), or neither (2), as where the length is not allowed
 unfoldable pub infoPartOf : List ℕ → ℕ
@@ -22,13 +19,6 @@ infoPartOf a = cond (lengthAllowed (length a)) (countsOf (take 4096 a) (drop (le
 abbrev pub judgedFigures : ℕ → List ℕ → Figures
 judgedFigures n a = cond (eqb n 0) (figuresIn a) noFigures
 
--- some sector's map word is sloppy, and some lane's padding is not zero
-abbrev pub someSloppy : Layout → List ℕ → Bool
-someSloppy g a = some (g .E) (λ s. sloppyWord (mapWord g a s))
-
-abbrev pub somePadding : Layout → List ℕ → Bool
-somePadding g a = some (g .N) (paddingSet g a)
-
 -- the number that the map's words give: 7 over all of them, then 18
 abbrev pub wordsNumber : Layout → List ℕ → ℕ
-wordsNumber g a = cond (wordBad g a) 7 (cond (someSloppy g a) 18 0)
+wordsNumber g a = cond (wordBad g a) 7 (cond (wordSloppy g a) 18 0)

@@ -25,10 +25,10 @@ ghost use Rattle.machine.specs.Rules.{answer};
 ghost use Rattle.machine.specs.state.Answer.{numberOf};
 ghost use Rattle.machine.specs.state.Handle.{noFigures, ToldOk};
 ghost use Rattle.machine.specs.calls.Opening.{numberOpen, testsOpen, infoRules, mapRules, openNumber};
-ghost use Rattle.machine.specs.calls.Opening.{figuresIn, lanesLost, workAfter};
+ghost use Rattle.machine.specs.calls.Opening.{figuresIn, lanesLost, lanePadded, workAfter};
 ghost use Rattle.lanes.specs.Fit.{MapFit};
 ghost use Rattle.once.specs.Once.{cleared};
-ghost use Rattle.judge.specs.Judge.{judgedFigures, somePadding, wordsNumber};
+ghost use Rattle.judge.specs.Judge.{judgedFigures, wordsNumber};
 
 // What judging finds: an answer, and the figures where it is Done.
 pub struct Judged {
@@ -112,9 +112,9 @@ fn judge_words(a: &[u8], f: Figures) -> Answer
 }
 
 // Rule 18, of the flog: whether some lane's padding is not zero.
-fn some_padding(a: &[u8], f: Figures, d: u32) -> bool
+fn lane_padded(a: &[u8], f: Figures, d: u32) -> bool
     requires { ⌜ Fit d f (length (now a)) ⌝ }
-    ensures { λ r. ⌜ r ≡ somePadding (layoutOf d f) (now (a .entry)) ⌝ }
+    ensures { λ r. ⌜ r ≡ lanePadded (layoutOf d f) (now (a .entry)) ⌝ }
 {
     let mut l: u32 = 0;
     while l < f.lanes {
@@ -141,7 +141,7 @@ fn judge_map(a: &[u8], told: Told, f: Figures, work: &mut [u8]) -> Answer
         clear(work, f.blocks as usize);
         return words;
     }
-    if some_padding(a, f, told.distance) {
+    if lane_padded(a, f, told.distance) {
         clear(work, f.blocks as usize);
         return Answer::Sloppy;
     }

@@ -13,7 +13,6 @@ use borrow.Author.Tests.{eq-eqb, ne-eqb, le-ltb}
 use Rattle.words.specs.Word.{word, putWord}
 use Rattle.words.specs.Bytes.{Small}
 use Rattle.words.proofs.Laws.{length-putWord, word-putWord-same, word-putWord-other, putWord-bytes}
-use Rattle.format.specs.Tests.{some}
 use Rattle.format.specs.MapWord.{badWord, sloppyWord}
 use Rattle.format.proofs.Tests.{true-false, by-bool, true-or, every-intro, some-intro, some-found}
 use Rattle.infoblock.specs.Info.{infoBlockOf, figuresOf}
@@ -31,7 +30,7 @@ use Rattle.machine.specs.calls.Order.{read, start, write}
 use Rattle.machine.specs.calls.Judging.{inFlight}
 use Rattle.machine.specs.calls.Reading.{readOf}
 use Rattle.machine.specs.calls.Writing.{startOf, writeOf}
-use Rattle.machine.specs.calls.Opening.{figuresIn, layoutIn, laneReadable, lanesLost, wordBad, sloppy, openNumber, openOf}
+use Rattle.machine.specs.calls.Opening.{figuresIn, layoutIn, laneReadable, lanesLost, wordBad, wordSloppy, sloppy, openNumber, openOf}
 use Rattle.machine.specs.claims.Exhibit.{RefusedSloppy}
 use Rattle.machine.proofs.rules.Rules.{stop, pass, through}
 use Rattle.machine.proofs.rules.Running.{call-walk}
@@ -138,7 +137,7 @@ module _ (a work : List ℕ) (small : Small a) (opens : (openOf alone a work) .n
   padding-refused = refuses 10303 0x01000000 (omega arith) (omega arith) (λ l x k u c d e. omega arith)
       (some-intro 60 (λ s. badWord 64 (mapWord g padded s))
       (λ s u. rw (still-0 s u)))
-      (true-or (some 60 (λ s. sloppyWord (mapWord g padded s))) _ (inr (some-found 4 (paddingSet g padded) 3 (omega arith)
+      (true-or (wordSloppy g padded) _ (inr (some-found 4 (paddingSet g padded) 3 (omega arith)
       (some-found 16 _ 15 (omega arith) (rw (word-putWord-same a 10303 0x01000000 (omega (arith, size-is)) (omega arith)))))))
 
   -- ---- through the handle that opening the arena gave

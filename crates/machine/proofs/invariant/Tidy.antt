@@ -8,14 +8,13 @@ use Prim.Native.Nat.{ℕ, _<_}
 use native.Mathlib.Decide.{ℕ-discrete}
 use lib.Dec.{eqb}
 use Rattle.words.proofs.Laws.{word-putWord-other}
-use Rattle.format.specs.Tests.{some}
 use Rattle.format.specs.MapWord.{sloppyWord}
 use Rattle.format.proofs.Tests.{or-false, some-intro, some-elim, some-same}
 use Rattle.layout.specs.Place.{Layout, LayoutOk, inMap, InRange, laneWordAt, isPadding}
 use Rattle.layout.proofs.Padding.{padding-apart}
 use Rattle.machine.specs.state.Stores.{Store, stored}
 use Rattle.machine.specs.state.Flog.{mapWord, laneWord, paddingSet}
-use Rattle.machine.specs.calls.Opening.{sloppy}
+use Rattle.machine.specs.calls.Opening.{wordSloppy, lanePadded, sloppy}
 use Rattle.machine.proofs.stores.Stores.{Arena, elsewhere}
 use Rattle.machine.proofs.stores.MapStores.{wordStore, word-other, word-here}
 
@@ -26,7 +25,7 @@ pub record Tidy (g : Layout) (a : List ℕ) : Type 0 where
 module _ (g : Layout) (a : List ℕ) where
   pub tidy-of : sloppy g a ≡ false → Tidy g a
   tidy-of e =
-      let p = or-false (some (g .E) (λ s. sloppyWord (mapWord g a s))) (some (g .N) (paddingSet g a)) e in
+      let p = or-false (wordSloppy g a) (lanePadded g a) e in
       record { words = some-elim (g .E) (λ s. sloppyWord (mapWord g a s)) (p .0); padding = some-elim (g .N) (paddingSet g a) (p .1) }
 
   pub of-tidy : Tidy g a → sloppy g a ≡ false

@@ -1,6 +1,6 @@
 -- Rule 18 in bytes: a byte of a lane's padding is in a word of it, and a word that is not zero has a byte that is not.
 use mathlib.Core.Path.{_≡_, refl, sym, ap, _∙_}
-use mathlib.Core.Logic.{_⊎_, inl, inr, ⊎-elim}
+use mathlib.Core.Logic.{inl, inr, ⊎-elim}
 use mathlib.Core.List.{List}
 use mathlib.Core.Bool.{true, false, not, _&&_}
 use Prim.Native.Nat.{ℕ, _+_, _-_, _*_, _/_, _<_}
@@ -11,9 +11,7 @@ use borrow.Author.Tests.{eqb-true, eqb-false, not-true, not-false}
 use Rattle.words.specs.Word.{word}
 use Rattle.words.specs.Bytes.{Small}
 use Rattle.words.proofs.Bytes.{byte-zero, byte-set}
-use Rattle.format.specs.Tests.{some}
 use Rattle.format.specs.MapWord.{sloppyWord}
-use Rattle.format.specs.Claims.{SloppyWord}
 use Rattle.format.proofs.Tests.{true-false, by-bool, and-elim, or-true, some-elim, some-true}
 use Rattle.format.proofs.InNumbers.{map-words}
 use Rattle.layout.specs.Figures.{Allowed}
@@ -24,15 +22,11 @@ use Rattle.layout.specs.declared.Figures.{Figures}
 use Rattle.layout.proofs.Offsets.{lane-start}
 use Rattle.layout.proofs.Padding.{padding-byte, byte-padding}
 use Rattle.machine.specs.state.Flog.{mapWord, laneWord, paddingSet}
-use Rattle.machine.specs.calls.Opening.{sloppy}
-use Rattle.machine.specs.words.InBytes.{mapWordIn, laneByte}
-use Rattle.machine.specs.words.Valid.{SloppyLane, Clean}
+use Rattle.machine.specs.calls.Opening.{wordSloppy, lanePadded, sloppy}
+use Rattle.machine.specs.words.InBytes.{laneByte}
+use Rattle.machine.specs.words.Valid.{SloppyLane, SloppyIn, Clean}
 use Rattle.machine.proofs.stores.Offsets.{map-word}
 use Rattle.machine.proofs.invariant.Tidy.{Tidy, tidy-of}
-
--- a map word or a lane that is sloppy
-abbrev pub Found : ℕ → Figures → List ℕ → Type 0
-Found d f a = ((s : ℕ) × (s < f .sectors) × SloppyWord (mapWordIn f a s)) ⊎ ((l : ℕ) × (l < f .lanes) × SloppyLane d f a l)
 
 module _ (d : ℕ) (dist : DistanceOk d) (f : Figures) (n : ℕ) (ok : Allowed f n) (a : List ℕ) (small : Small a) where
   abbrev g : Layout
@@ -74,20 +68,20 @@ module _ (d : ℕ) (dist : DistanceOk d) (f : Figures) (n : ℕ) (ok : Allowed f
       let in-k : j / 4 ≡ k = omega (arith, b .1) in
       (j, omega (arith, b .1, w .1), padding-byte d j dist (rw (in-k, ← distance) (p .0)), λ z. b .2 (ap (λ (i : ℕ). getD a i 0) at-j ∙ z))
 
-  pub sloppy-found : sloppy g a ≡ true → Found d f a
+  pub sloppy-found : sloppy g a ≡ true → SloppyIn d f a
   unfolding layoutOf
   sloppy-found e = ⊎-elim
       (λ p. let w = some-true (g .E) (λ s. sloppyWord (mapWord g a s)) p in
       inl (w .0, w .1, rw (map-word d f n ok a (w .0)) at (map-words .rule-18 (mapWord g a (w .0)) (w .2))))
       (λ p. let w = some-true (g .N) (paddingSet g a) p in inr (w .0, w .1, lane-found (w .0) (w .2)))
-      (or-true (some (g .E) (λ s. sloppyWord (mapWord g a s))) (some (g .N) (paddingSet g a)) e)
+      (or-true (wordSloppy g a) (lanePadded g a) e)
 
   -- what is clean has nothing sloppy
-  none-found : Clean d f a → Found d f a → ⊥
+  none-found : Clean d f a → SloppyIn d f a → ⊥
   none-found c (inl w) = c .words (w .0) (w .1) (w .2)
   none-found c (inr w) = w .2 .3 (c .padding (w .0) (w .2 .0) (w .1) (w .2 .1) (w .2 .2))
 
-  pub found-sloppy : Found d f a → sloppy g a ≡ true
+  pub found-sloppy : SloppyIn d f a → sloppy g a ≡ true
   found-sloppy w = by-bool (sloppy g a) _ (λ t. t) (λ t. absurd (none-found (tidy-clean (tidy-of g a t)) w))
 
   pub clean-passes : Clean d f a → sloppy g a ≡ false

@@ -73,8 +73,14 @@ abbrev pub wordBad : Layout → List ℕ → Bool
 wordBad g a = some (g .E) (λ s. badWord (g .I) (mapWord g a s))
 
 -- rule 18: some sector's map word is sloppy, or some lane's padding is not zero
+abbrev pub wordSloppy : Layout → List ℕ → Bool
+wordSloppy g a = some (g .E) (λ s. sloppyWord (mapWord g a s))
+
+abbrev pub lanePadded : Layout → List ℕ → Bool
+lanePadded g a = some (g .N) (paddingSet g a)
+
 abbrev pub sloppy : Layout → List ℕ → Bool
-sloppy g a = some (g .E) (λ s. sloppyWord (mapWord g a s)) || some (g .N) (paddingSet g a)
+sloppy g a = wordSloppy g a || lanePadded g a
 
 -- rule 8: two pending lanes name one sector, or mapped and free blocks are not each block once
 abbrev pub unsettled : Layout → List ℕ → Bool

@@ -52,7 +52,11 @@ pub record Readable (g : Layout) (a : List ℕ) (l : ℕ) : Type 0 where
 abbrev pub SloppyLane : ℕ → Figures → List ℕ → ℕ → Type 0
 SloppyLane d f a l = (j : ℕ) × (j < 64) × InPadding d j × (getD a (laneByte f l j) 0 ≢ 0)
 
--- rule 18 does not apply: no map word is sloppy, and every byte of every lane's padding is 0
+-- rule 18: a map word is sloppy, or a byte of a lane's padding is not 0
+abbrev pub SloppyIn : ℕ → Figures → List ℕ → Type 0
+SloppyIn d f a = ((s : ℕ) × (s < f .sectors) × SloppyWord (mapWordIn f a s)) ⊎ ((l : ℕ) × (l < f .lanes) × SloppyLane d f a l)
+
+-- it does not apply: no map word is sloppy, and every byte of every lane's padding is 0
 pub record Clean (d : ℕ) (f : Figures) (a : List ℕ) : Type 0 where
   pub words : (s : ℕ) → s < f .sectors → SloppyWord (mapWordIn f a s) → ⊥
   pub padding : (l j : ℕ) → l < f .lanes → j < 64 → InPadding d j → getD a (laneByte f l j) 0 ≡ 0
@@ -109,9 +113,7 @@ HoldsOpen t a room flagsSet = byteWord (infoBlockOf a) 48 ≢ 0
 HoldsOpen t a room shortWork = room < (layoutIn t a) .I
 HoldsOpen t a room lostLane = (l : ℕ) × (l < (layoutIn t a) .N) × (Readable (layoutIn t a) a l → ⊥)
 HoldsOpen t a room badWords = (s : ℕ) × (s < (layoutIn t a) .E) × BadWord ((layoutIn t a) .I) (mapWord (layoutIn t a) a s)
-HoldsOpen t a room sloppyArena =
-    ((s : ℕ) × (s < (figuresIn a) .sectors) × SloppyWord (mapWordIn (figuresIn a) a s))
-    ⊎ ((l : ℕ) × (l < (figuresIn a) .lanes) × SloppyLane (t .distance) (figuresIn a) a l)
+HoldsOpen t a room sloppyArena = SloppyIn (t .distance) (figuresIn a) a
 HoldsOpen t a room notValid = Settled (layoutIn t a) a → ⊥
 
 -- n is the answer of an opening by its line of the table

@@ -59,8 +59,8 @@ returns-2 c =
     let z = sym (at-is-done .is-done .ensures) ∙ not-true (at-is-done .is-done .result) (at-if2 .if2 .taken) in
     (words-walk _ _ _ (start .pre .1) e _ (at-judge-words .judge-words .ensures (start .args .told .distance)) z, at-clear2 .clear2 .ensures)
 
-some-padding-requires : tie.Need-some-padding-requires
-some-padding-requires c κs = search needs
+lane-padded-requires : tie.Need-lane-padded-requires
+lane-padded-requires c κs = search needs
 
 cast-clear-3 : tie.Need-cast-clear-3
 cast-clear-3 c = search needs
@@ -75,8 +75,8 @@ returns-3 : tie.Need-returns-3
 returns-3 c =
     let at-clear3 = c .before .before in
     let at-if3 = at-clear3 .before .before .before in
-    let at-some-padding = at-if3 .before in
-    let at-if2 = at-some-padding .before in
+    let at-lane-padded = at-if3 .before in
+    let at-if2 = at-lane-padded .before in
     let at-is-done = at-if2 .before in
     let at-judge-words = at-is-done .before in
     let at-if1 = at-judge-words .before in
@@ -85,13 +85,13 @@ returns-3 c =
     let e = sym (at-lanes-lost .lanes-lost .ensures) ∙ at-if1 .if1 .left in
     let z = sym (at-is-done .is-done .ensures) ∙ not-false (at-is-done .is-done .result) (at-if2 .if2 .left) in
     let w = sym (at-judge-words .judge-words .ensures (start .args .told .distance)) ∙ eqb-true _ _ z in
-    (padding-walk _ _ _ (start .pre .1) e w (sym (at-some-padding .some-padding .ensures) ∙ at-if3 .if3 .taken), at-clear3 .clear3 .ensures)
+    (padding-walk _ _ _ (start .pre .1) e w (sym (at-lane-padded .lane-padded .ensures) ∙ at-if3 .if3 .taken), at-clear3 .clear3 .ensures)
 
 blocks-once-requires : tie.Need-blocks-once-requires
 blocks-once-requires c κs =
     let at-if3 = c .before in
-    let at-some-padding = at-if3 .before in
-    let at-if2 = at-some-padding .before in
+    let at-lane-padded = at-if3 .before in
+    let at-if2 = at-lane-padded .before in
     let at-is-done = at-if2 .before in
     let at-judge-words = at-is-done .before in
     let at-if1 = at-judge-words .before in
@@ -103,7 +103,7 @@ blocks-once-requires c κs =
         fit = start .pre .0;
         lanes = sym (at-lanes-lost .lanes-lost .ensures) ∙ at-if1 .if1 .left;
         words = words-passed (start .args .told) _ _ (start .pre .1) w .0;
-        clean = passed-clean (start .args .told) _ _ (start .pre .1) w (sym (at-some-padding .some-padding .ensures) ∙ at-if3 .if3 .left);
+        clean = passed-clean (start .args .told) _ _ (start .pre .1) w (sym (at-lane-padded .lane-padded .ensures) ∙ at-if3 .if3 .left);
       },
       start .pre .2,
     )
@@ -115,8 +115,8 @@ returns-4 : tie.Need-returns-4
 returns-4 c =
     let at-blocks-once = c .before .before .before in
     let at-if3 = at-blocks-once .before .before in
-    let at-some-padding = at-if3 .before in
-    let at-if2 = at-some-padding .before in
+    let at-lane-padded = at-if3 .before in
+    let at-if2 = at-lane-padded .before in
     let at-is-done = at-if2 .before in
     let at-judge-words = at-is-done .before in
     let at-if1 = at-judge-words .before in
@@ -126,7 +126,7 @@ returns-4 c =
     let e = sym (at-lanes-lost .lanes-lost .ensures) ∙ at-if1 .if1 .left in
     let z = sym (at-is-done .is-done .ensures) ∙ not-false (at-is-done .is-done .result) (at-if2 .if2 .left) in
     let w = sym (at-judge-words .judge-words .ensures (start .args .told .distance)) ∙ eqb-true _ _ z in
-    let p = sym (at-some-padding .some-padding .ensures) ∙ at-if3 .if3 .left in
+    let p = sym (at-lane-padded .lane-padded .ensures) ∙ at-if3 .if3 .left in
     let small : Small (start .args .a .now) = λ j. omega (arith, at-shared-slice-known .shared-slice-known .given j) in
     let o = once-or-not (start .args .told .distance) (start .args .f) _ (start .pre .0) small e ∙ ap not (sym (at-blocks-once .blocks-once .ensures .0)) in
     (invalid-walk _ _ _ (start .pre .1) e w p (o ∙ c .if4 .taken), at-blocks-once .blocks-once .ensures .1)
@@ -138,8 +138,8 @@ returns-5 : tie.Need-returns-5
 returns-5 c =
     let at-blocks-once = c .before .before .before in
     let at-if3 = at-blocks-once .before .before in
-    let at-some-padding = at-if3 .before in
-    let at-if2 = at-some-padding .before in
+    let at-lane-padded = at-if3 .before in
+    let at-if2 = at-lane-padded .before in
     let at-is-done = at-if2 .before in
     let at-judge-words = at-is-done .before in
     let at-if1 = at-judge-words .before in
@@ -149,7 +149,7 @@ returns-5 c =
     let e = sym (at-lanes-lost .lanes-lost .ensures) ∙ at-if1 .if1 .left in
     let z = sym (at-is-done .is-done .ensures) ∙ not-false (at-is-done .is-done .result) (at-if2 .if2 .left) in
     let w = sym (at-judge-words .judge-words .ensures (start .args .told .distance)) ∙ eqb-true _ _ z in
-    let p = sym (at-some-padding .some-padding .ensures) ∙ at-if3 .if3 .left in
+    let p = sym (at-lane-padded .lane-padded .ensures) ∙ at-if3 .if3 .left in
     let small : Small (start .args .a .now) = λ j. omega (arith, at-shared-slice-known .shared-slice-known .given j) in
     let o = once-or-not (start .args .told .distance) (start .args .f) _ (start .pre .0) small e ∙ ap not (sym (at-blocks-once .blocks-once .ensures .0)) in
     (valid-walk _ _ _ (start .pre .1) e w p (o ∙ c .if4 .left), at-blocks-once .blocks-once .ensures .1)
@@ -169,7 +169,7 @@ judge-map-spec =
     clear-requires-2
     same-length-2
     returns-2
-    some-padding-requires
+    lane-padded-requires
     cast-clear-3
     clear-requires-3
     same-length-3

@@ -1,4 +1,4 @@
--- `judge::opening::some_padding` meets its contract. The invariant: no lane passed has padding that is not zero.
+-- `judge::opening::lane_padded` meets its contract. The invariant: no lane passed has padding that is not zero.
 use mathlib.Core.Bool.{false}
 use mathlib.Core.Path.{_≡_, sym, _∙_}
 use Prim.Native.Nat.{_-_, _≤_}
@@ -8,8 +8,8 @@ use Rattle.format.specs.Tests.{some}
 use Rattle.format.proofs.Tests.{some-zero, some-more, some-found}
 use Rattle.layout.specs.Place.{layoutOf}
 use Rattle.machine.specs.state.Flog.{paddingSet}
-use Rattle.judge.proofs.opening.some_padding.Statement.{statement}
-use Rattle.judge.proofs.opening.some_padding.Tie as tie
+use Rattle.judge.proofs.opening.lane_padded.Statement.{statement}
+use Rattle.judge.proofs.opening.lane_padded.Tie as tie
 
 abbrev Inv-loop : tie.InvT-loop
 Inv-loop a f d l₀ l = (l ≤ f .lanes) × (some l (paddingSet (layoutOf d f) a) ≡ false)
@@ -44,8 +44,8 @@ returns-2 c =
     let at-loop = c .before .before in
     sym (rw (le-antisymm (at-loop .loop .inv .0) (c .if1 .left)) at (at-loop .loop .inv .1))
 
-pub some-padding-spec : {M : Type 1} → statement M
-some-padding-spec =
+pub lane-padded-spec : {M : Type 1} → statement M
+lane-padded-spec =
     tie.close
     (tie.spec
     Inv-loop
