@@ -21,7 +21,7 @@ def put(arena, offset, *words):
 
 FIGURES = model.made_figures(512, 60, 4)
 MAP, FLOG, COPY = FIGURES.map, FIGURES.flog, FIGURES.copy
-# An allowed layout that making does not work out, with a gap before every part.
+# Allowed figures that making does not work out, with a gap before every part.
 LOOSE = model.Figures(512, 10, 512, 12, 2, 8192, 20480, 28672, 36864)
 
 
@@ -33,8 +33,8 @@ def with_blocks(arena, **changes):
     return arena
 
 
-def half(arena, lane, which, sector, old, new, sequence):
-    return put(arena, FLOG + 64 * lane + 16 * which, sector, old, new, sequence)
+def half(arena, lane, which, sector, old, new, sequence, layout=16):
+    return put(arena, FLOG + 64 * lane + (layout if which else 0), sector, old, new, sequence)
 
 
 def mapped(arena, sector, word):
@@ -130,6 +130,11 @@ ARENAS = {
     "refused-18-padding-first-byte": lambda: padded(fresh(), 0, 32, 0x01),
     "refused-18-before-8": lambda: mapped(mapped(fresh(), 5, 0xC0000006), 59, 0x00000001),
     "refused-18-padding-before-8": lambda: padded(mapped(fresh(), 5, 0xC0000006), 3, 63, 0x80),
+    "refused-18-layout-32": lambda: mapped(half(fresh(), 0, 1, 7, 7, 60, 2, 32), 7, 0xC000003C),
+    "refused-18-layout-32-pending": lambda: half(fresh(), 0, 1, 7, 7, 60, 2, 32),
+    "refused-18-layout-32-older-half": lambda: half(fresh(), 3, 1, 0, 0, 0, 3, 32),
+    "refused-6-layout-32": lambda: half(half(fresh(), 2, 0, 7, 7, 62, 0), 2, 1, 7, 7, 62, 1, 32),
+    "refused-7-layout-32": lambda: mapped(half(fresh(), 1, 1, 7, 7, 61, 2, 32), 59, 0xC0000040),
     "refused-8-mapped-twice": lambda: mapped(fresh(), 5, 0xC0000006),
     "refused-8-free-twice": lambda: half(fresh(), 0, 1, 7, 61, 61, 2),
     "refused-8-pending-twice": lambda: half(half(fresh(), 0, 1, 7, 7, 60, 2), 1, 1, 7, 7, 61, 2),

@@ -27,11 +27,15 @@ def reading(arena, f, sector):
     return 0, bytes(arena[place : place + f.size])
 
 
-def nothing_sloppy(arena, f):
-    """Whether every map word below 2^30 is zero, and so are the bytes of every lane after its two halves."""
+def nothing_sloppy(arena, f, layout):
+    """Whether every map word below 2^30 is zero, and so is every byte of a lane that is in neither of its halves."""
     words = struct.unpack_from("<%dI" % f.sectors, arena, f.map)
-    rests = [arena[lane + 32 : lane + 64] for lane in range(f.flog, f.flog + 64 * f.lanes, 64)]
+    rests = [[arena[lane + byte] for byte in range(64) if byte >= 16 and byte - layout not in range(16)] for lane in lanes_at(f)]
     return not any(0 < word < 2**30 for word in words) and not any(map(any, rests))
+
+
+def lanes_at(f):
+    return range(f.flog, f.flog + 64 * f.lanes, 64)
 
 
 def mapped_blocks(arena, f):
@@ -87,15 +91,16 @@ class Row:
 class Book:
     """The plain book of a list: the arena it begins with, all lanes idle, and the writes started since."""
 
-    def __init__(self, arena, f):
-        self.first, self.f = bytes(arena), f
+    def __init__(self, arena, f, layout):
+        self.first, self.f, self.layout = bytes(arena), f, layout
         self.full = f.size // 4 + 5
         self.writes = []
         self.next = [self.next_of(lane) for lane in range(f.lanes)]
 
     def next_of(self, lane):
         """The lane's free block, next half and next sequence, read as in opening."""
-        words = struct.unpack_from("<8I", self.first, self.f.flog + 64 * lane)
+        at = self.f.flog + 64 * lane
+        words = struct.unpack_from("<4I", self.first, at) + struct.unpack_from("<4I", self.first, at + self.layout)
         turns = {(1, 0): 0, (2, 0): 0, (3, 0): 0, (0, 1): 1, (0, 2): 1, (0, 3): 1}
         turns.update({(2, 1): 0, (3, 2): 0, (1, 3): 0, (1, 2): 1, (2, 3): 1, (3, 1): 1})
         newer = turns[words[3], words[7]]
@@ -112,8 +117,10 @@ class Book:
         """The number that the table gives a call of the list, by tallies alone."""
         if lane >= self.f.lanes:
             return 11
-        if call == "step":
-            return 14 if not self.in_flight(lane) else 10 if length != self.f.size else 0
+        if call in ("step", "next_store"):
+            return 14 if not self.in_flight(lane) else 10 if call == "step" and length != self.f.size else 0
+        if call == "lane_record":
+            return 0
         if self.in_flight(lane):
             return 12
         if sector >= self.f.sectors:
@@ -130,10 +137,15 @@ class Book:
         """All the stores of a write, worked out from its bytes and the first arena."""
         f = self.f
         free, half, sequence = self.next[write.lane]
-        block, pair = f.data + f.size * free, f.flog + 64 * write.lane + 16 * half
+        block, pair = f.data + f.size * free, f.flog + 64 * write.lane + (self.layout if half else 0)
         stores = [(block + 4 * k, word) for k, (word,) in enumerate(struct.iter_unpack("<I", write.contents))]
         stores += zip(range(pair, pair + 16, 4), (write.sector, self.old_block(write.sector), free, sequence))
         return stores + [(f.map + 4 * write.sector, 0xC0000000 | free)]
+
+    def next_offset(self, lane):
+        """Where the next step of the lane's write in flight stores."""
+        write = next(write for write in self.writes if write.lane == lane and write.tally < self.full)
+        return self.stores(write)[write.tally][0]
 
     def arena(self, rng):
         """The first arena with each write's first stores put in, in any order."""

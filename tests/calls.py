@@ -1,4 +1,4 @@
-"""The model of the running calls: read, start, step and whole write, from the rules' own words.
+"""The model of the running calls: read, start, step, whole write and what a host may ask of a lane, from the rules' own words.
 
 It shares no code with the library. Each call gives the answer's number and changes arena, handle or buffer in place.
 """
@@ -17,6 +17,8 @@ ORDER = {
     "start": (16, 11, 12, 9, 13, 7, 18),
     "write": (16, 11, 12, 9, 10, 13, 7, 18),
     "step": (16, 11, 14, 10),
+    "lane_record": (16, 11),
+    "next_store": (16, 11, 14),
 }
 
 
@@ -34,15 +36,15 @@ class Record(NamedTuple):
 
 @dataclass
 class Handle:
-    """What opening gives: the slice's length, the figures, and a record for each of 16 lanes."""
+    """What opening gives: the slice's length, the figures, a record for each of 16 lanes, and the layout that it was told."""
 
     length: int
     figures: model.Figures
     records: list
-    reserved: int = 0
+    layout: int = 0
 
     def copy(self):
-        return Handle(self.length, replace(self.figures), list(self.records), self.reserved)
+        return Handle(self.length, replace(self.figures), list(self.records), self.layout)
 
 
 def no_handle():
@@ -55,7 +57,7 @@ def handle_of(opened, length):
     if opened.number:
         return no_handle()
     records = [Record(0, lane.free, lane.half, lane.sequence) for lane in opened.lanes]
-    return Handle(length, replace(opened.figures), records + [Record()] * (model.MAX_LANES - len(records)))
+    return Handle(length, replace(opened.figures), records + [Record()] * (model.MAX_LANES - len(records)), opened.layout)
 
 
 def refusal(call, arena, handle, lane=0, sector=0, length=0):
@@ -97,8 +99,10 @@ def others(handle, lane):
 
 
 def bad_handle(handle, length):
-    """Whether a figure of the handle or the record of any lane is out of range."""
+    """Whether a figure of the handle, its layout or the record of any lane is out of range."""
     f = handle.figures
+    if not model.layout_allowed(handle.layout):
+        return True
     if handle.length != length or not model.length_allowed(length) or not model.figures_allowed(f, length):
         return True
     for record in handle.records[: f.lanes]:
@@ -154,14 +158,14 @@ def start(arena, handle, lane, sector):
     return number
 
 
-def store(f, lane, record, buffer):
+def store(f, layout, lane, record, buffer):
     """The (offset, value) of the one store that the next step of a write in flight makes."""
     k, words = record.made, f.size // 4
     if k < words:
         return f.data + f.size * record.block + 4 * k, int.from_bytes(buffer[4 * k : 4 * k + 4], "little")
     if k < words + 4:
         part = k - words
-        return f.flog + 64 * lane + 16 * record.half + 4 * part, (record.sector, record.old, record.block, record.sequence)[part]
+        return model.half_start(f, layout, lane, record.half) + 4 * part, (record.sector, record.old, record.block, record.sequence)[part]
     return f.map + 4 * record.sector, DATA_WORD + record.block
 
 
@@ -178,7 +182,7 @@ def step(arena, handle, lane, buffer):
     number = refusal("step", arena, handle, lane, 0, len(buffer))
     if number == 0:
         f, record = handle.figures, handle.records[lane]
-        put(arena, *store(f, lane, record, buffer))
+        put(arena, *store(f, handle.layout, lane, record, buffer))
         handle.records[lane] = stepped(f, record)
     return number
 
@@ -188,7 +192,7 @@ def whole(arena, handle, lane, sector, buffer):
     f = handle.figures
     record, stores = started(arena, f, handle.records[lane], sector), []
     while record.busy:
-        stores.append(store(f, lane, record, buffer))
+        stores.append(store(f, handle.layout, lane, record, buffer))
         record = stepped(f, record)
     return stores, record
 
@@ -201,3 +205,20 @@ def write(arena, handle, lane, sector, buffer):
         for offset, value in stores:
             put(arena, offset, value)
     return number
+
+
+def lane_record(arena, handle, lane, record):
+    """Copies a lane's record into the seven words of a list."""
+    number = refusal("lane_record", arena, handle, lane)
+    if number == 0:
+        record[:] = handle.records[lane]
+    return number
+
+
+def next_store(arena, handle, lane):
+    """The number, and with 0 the byte offset of the store that the lane's next step makes."""
+    number = refusal("next_store", arena, handle, lane)
+    if number:
+        return number, None
+    f = handle.figures
+    return 0, store(f, handle.layout, lane, handle.records[lane], bytes(f.size))[0]

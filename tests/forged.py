@@ -6,6 +6,7 @@ import random_arenas
 TOP32, TOP64 = 2**32, 2**64
 SIZES = ("size", "sectors", "internal", "blocks", "lanes")
 STARTS = ("data", "map", "flog", "copy")
+CALLS = ("read", "start", "step", "step", "write", "lane_record", "next_store")
 
 
 def near(rng, value, top):
@@ -147,12 +148,17 @@ def past_the_lanes(rng, handle, f):
         handle.records[lane] = calls.Record(rng.choice((0, 1, 1, 2)), *(rng.getrandbits(32) for _ in range(3)), sector, rng.getrandbits(32), 0)
 
 
-def reserved_word(rng, handle, f):
-    """A reserved word that is not 0, which every call keeps."""
-    handle.reserved = rng.getrandbits(32)
+def refused_layout(rng, handle, f):
+    handle.layout = random_arenas.a_refused_layout(rng)
 
 
-KINDS = (reserved_word, one_size, one_start, odd_start, low_data, other_length, other_slice, early_copy, fewer_sectors, fewer_lanes, more_lanes)
+def exchanged_layout(rng, handle, f):
+    """The other layout, which is not found out: the calls go on with its distance."""
+    handle.layout = random_arenas.other_layout(handle.layout)
+
+
+KINDS = (exchanged_layout,) * 2 + (refused_layout,) * 2
+KINDS += (one_size, one_start, odd_start, low_data, other_length, other_slice, early_copy, fewer_sectors, fewer_lanes, more_lanes)
 KINDS += (too_few_sectors, other_size, overlapping, wrapping) + (one_record,) * 6 + (sound_record,) * 3 + (past_the_lanes,) * 2
 
 
@@ -184,9 +190,20 @@ def with_record(handle, lane, **fields):
     return copy
 
 
+def with_all_records(handle, **fields):
+    """A copy of a handle with fields of every record changed."""
+    copy = handle.copy()
+    copy.records = [record._replace(**fields) for record in copy.records]
+    return copy
+
+
 def refusing(handle, lane, sector):
     """Forged copies of a handle, its lanes idle, with the number by which each refuses a whole write there before a map word is judged."""
     last = handle.figures.lanes - 1
+    for layout in (0, 48):
+        forged = handle.copy()
+        forged.layout = layout
+        yield 16, forged
     yield 16, with_record(handle, last, half=2)
     yield 16, with_record(handle, last, sequence=0)
     yield 16, with_record(handle, lane, block=handle.figures.blocks)
@@ -238,4 +255,4 @@ def a_length(rng, handle):
 
 def a_call(rng, handle, focus=None):
     """The name of a call and its lane, sector and buffer length, any of them perhaps wrong."""
-    return rng.choice(("read", "start", "step", "step", "write")), a_lane(rng, handle), a_sector(rng, handle, focus), a_length(rng, handle)
+    return rng.choice(CALLS), a_lane(rng, handle), a_sector(rng, handle, focus), a_length(rng, handle)

@@ -12,6 +12,7 @@ import arenas
 import book
 import calls
 import forged
+import layouts
 import library
 import model
 import random_arenas
@@ -27,6 +28,7 @@ class History:
     def __init__(self, lib, seed, notes):
         self.lib, self.rng, self.notes = lib, random.Random(seed), notes
         self.careful, self.must_open = self.rng.random() < 0.8, True
+        self.layout = self.rng.choice(random_arenas.LAYOUTS)
         self.pair = self.row = self.book = self.first_handle = self.after_list = None
         self.bytes = {}
 
@@ -52,10 +54,10 @@ class History:
         if chance < 0.4:
             return self.make(*sizes)
         if chance < 0.9:
-            arena = random_arenas.aged(rng, *random_arenas.valid(rng, (sizes,)))
+            arena = random_arenas.aged(rng, *random_arenas.valid(rng, self.layout, (sizes,)), self.layout)
             arena = random_arenas.one_sound_block(rng, arena) if rng.random() < 0.3 else arena
         else:
-            arena, self.must_open = random_arenas.damaged(rng)[0], False
+            arena, self.must_open = random_arenas.damaged(rng, self.layout)[0], False
         self.pair = Pair(self.lib, arena, rng, self.notes)
 
     def make(self, size, sectors, lanes):
@@ -69,26 +71,30 @@ class History:
             self.pair.make(*wrong[:3], rng.randbytes(wrong[3]), rng.randbytes(wrong[4]))
         self.pair.make(size, sectors, lanes, rng.randbytes(16), rng.randbytes(16))
         self.row = book.Row(self.pair.arena, f)
-        self.demand(book.nothing_sloppy(self.pair.arena, f), "a made arena passes 18")
+        passes = all(book.nothing_sloppy(self.pair.arena, f, layout) for layout in random_arenas.LAYOUTS)
+        self.demand(passes, "a made arena passes 18 in both layouts")
         self.demand(self.row.sectors == [(0, bytes(size))] * sectors, "the sectors of a made arena are zeroes")
 
     # Openings, and what must hold after them.
 
     def open(self):
-        """Any cut openings and refused ones, then one with room; whether the arena was accepted."""
+        """Any cut openings and refused ones, then one with room in the layout that the handle had; whether the arena was accepted."""
         rng, pair = self.rng, self.pair
         plain = bytearray(pair.arena)
-        expected = model.open_arena(plain, bytearray(AMPLE))
+        expected = model.open_arena(plain, bytearray(AMPLE), self.layout)
         blocks = 64 if expected.number else expected.figures.blocks
         left = self.pending(expected.mended)
         for _ in range(rng.choice((0, 0, 1, 2, 4))):
-            k = rng.choice((0, 0, 1, 1, 2, 3, 15, 16, 2**32 - 1))
-            number, count = pair.cut_open(self.some_room(blocks), k)
+            k, layout, before = rng.choice((0, 0, 1, 1, 2, 3, 15, 16, 2**32 - 1)), self.some_layout(), bytes(pair.lent)
+            number, count = pair.cut_open(self.some_room(blocks), layout, k)
             self.demand(number != 0 or count == left, "a cut opening counts the lanes pending as found")
+            self.refused_layout(number, layout, before)
             left -= min(k, left) if number == 0 else 0
         number = 5
-        while number == 5:
-            number, count = pair.open(self.some_room(blocks))
+        while number in (5, 16):
+            layout, before = rng.choice((self.layout, self.layout, random_arenas.a_refused_layout(rng))), bytes(pair.lent)
+            number, count = pair.open(self.some_room(blocks), layout)
+            self.refused_layout(number, layout, before)
         self.demand(number == expected.number, "the answer is the same after cut openings")
         self.demand(number == 0 or not self.must_open, "given room to work, the arena opens, and no history leads to 18")
         if number:
@@ -98,6 +104,16 @@ class History:
         self.demand(pair.handle == calls.handle_of(expected, len(plain)), "the lanes end as without cut openings")
         self.opened()
         return True
+
+    def some_layout(self):
+        """Most often the layout that the handle had, else one that is refused, or the other, which is refused or makes no difference."""
+        others = (random_arenas.other_layout(self.layout),) if self.must_open else ()
+        return self.rng.choice((self.layout,) * 4 + (random_arenas.a_refused_layout(self.rng),) + others)
+
+    def refused_layout(self, number, layout, before):
+        """A layout that is neither 16 nor 32 is refused with 16, and whatever a layout is refused with changes nothing."""
+        self.demand((number == 16) == (layout not in random_arenas.LAYOUTS), "16 is the answer to a layout that is not allowed")
+        self.demand(number == 0 or self.pair.lent == before, "a refused opening changes nothing")
 
     def some_room(self, blocks):
         return self.rng.choice((blocks, blocks, blocks + 1, blocks + 40, blocks - 1, 0))
@@ -114,7 +130,8 @@ class History:
         """Checks the promises on the arena just opened, and begins a new list."""
         pair, f = self.pair, self.pair.handle.figures
         lanes = [(record.block, record.half, record.sequence) for record in pair.handle.records[: f.lanes]]
-        self.demand(book.nothing_sloppy(pair.arena, f), "an opened arena passes 18")
+        self.demand(pair.handle.layout == self.layout, "the handle carries the layout")
+        self.demand(book.nothing_sloppy(pair.arena, f, self.layout), "an opened arena passes 18")
         self.demand(book.each_block_once(pair.arena, f, [lane[0] for lane in lanes]), "mapped and free blocks are every block once")
         row = book.Row(pair.arena, f)
         if self.row is not None:
@@ -141,13 +158,13 @@ class History:
             self.cut_write()
         for write in self.row.flying.values():
             self.notes.cuts[max(0, write.tally - self.row.words)] += 1
-        self.demand(book.nothing_sloppy(self.pair.arena, self.pair.handle.figures), "calls leave an arena that passes 18")
+        self.demand(book.nothing_sloppy(self.pair.arena, self.pair.handle.figures, self.layout), "calls leave an arena that passes 18")
         self.end_list()
         self.pair.drop()
 
     def begin_list(self):
         """Begins a list, all lanes being idle."""
-        self.book, self.first_handle = book.Book(self.pair.arena, self.pair.handle.figures), self.pair.handle.copy()
+        self.book, self.first_handle = book.Book(self.pair.arena, self.pair.handle.figures, self.layout), self.pair.handle.copy()
 
     def end_list(self):
         """Checks the arena after the list; with all writes finished they are made one after another too, in any order."""
@@ -188,7 +205,9 @@ class History:
         self.demand(number != 18, "no history leads to 18")
         if number == 0 and name == "step":
             self.row.step(lane, buffer)
-        elif number == 0:
+        elif number == 0 and name == "next_store" and self.book is not None:
+            self.demand(pair.next_store(lane)[1] == self.book.next_offset(lane), "the next store is the one that the book gives")
+        elif number == 0 and name in ("start", "write"):
             self.note_start(lane, sector)
             if name == "write":
                 self.row.whole(lane, buffer, self.row.words + 5)
@@ -306,7 +325,7 @@ class History:
         if chance < 0.15 or 0.65 <= chance < 0.92:
             focus = forged.a_sector(rng, pair.handle) % f.sectors
             copy.put([(f.map + 4 * focus, forged.a_word(rng, f))])
-            copy.put([(f.flog + 64 * rng.randrange(f.lanes) + rng.randrange(32, 64, 4), rng.getrandbits(32))] * rng.randrange(2))
+            copy.put([(f.flog + 64 * rng.randrange(f.lanes) + rng.randrange(16, 64, 4), rng.getrandbits(32))] * rng.randrange(2))
         for _ in range(rng.choice((1, 2, 4))):
             copy.perform(*forged.a_call(rng, copy.handle, focus))
         busy = [lane for lane, record in enumerate(copy.handle.records) if record.busy]
@@ -318,11 +337,11 @@ def named(lib, notes):
     """The arenas that the report is run on, opened with and without room and by cut openings."""
     for arena in arenas.all_arenas().values():
         pair = Pair(lib, arena, random.Random(len(arena)), notes)
-        for room, k in ((128, 0), (63, 1), (128, 1), (64, 16)):
-            pair.cut_open(room, k)
+        for room, layout, k in ((128, 32, 0), (128, 16, 0), (63, 16, 1), (128, 16, 1), (64, 16, 16), (64, 32, 16)):
+            pair.cut_open(room, layout, k)
         pair = Pair(lib, arena, random.Random(len(arena)), notes)
-        for room in (0, 63, 64, 128):
-            pair.open(room)
+        for room, layout in ((0, 16), (63, 16), (64, 32), (64, 16), (128, 16), (128, 32)):
+            pair.open(room, layout)
 
 
 def longest(lib, notes):
@@ -330,7 +349,7 @@ def longest(lib, notes):
     for length, number in ((16777216, 0), (16777216 + 4096, 16)):
         pair = Pair(lib, bytes(length), random.Random(length), notes)
         figures = model.Figures(512, 1, 512, 2, 1, 4096, 8192, 12288, length - 4096)
-        pair.hold(calls.Handle(length, figures, [calls.Record(0, 1, 0, 1)] + [calls.Record()] * 15))
+        pair.hold(calls.Handle(length, figures, [calls.Record(0, 1, 0, 1)] + [calls.Record()] * 15, 32))
         if pair.start(0, 0) != number:
             pair.fail("not so: the start answers %d" % number)
 
@@ -341,6 +360,7 @@ def run(lib, count, first=1):
     try:
         named(lib, notes)
         longest(lib, notes)
+        layouts.try_all(lib, notes)
         sloppy.try_openings(lib, notes)
         sloppy.try_orders(lib, notes)
         for seed in range(first, first + count):
@@ -356,7 +376,7 @@ def run(lib, count, first=1):
 def unseen(notes):
     """The numbers that no call of a kind gave, of those it can give, and the places where no write was cut."""
     wanted = {name: (0,) + order for name, order in calls.ORDER.items()}
-    wanted.update(make=(0, 1, 3, 10), open=(*range(9), 18), cut_open=(*range(9), 18))
+    wanted.update(make=(0, 1, 3, 10), open=(*range(9), 16, 18), cut_open=(*range(9), 16, 18))
     missing = ["%s %d" % (name, number) for name, numbers in wanted.items() for number in numbers if not notes.seen[name, number]]
     return missing + ["cut %d words after the data" % place for place in range(5) if not notes.cuts[place]]
 

@@ -16,24 +16,31 @@ TOP = pathlib.Path(__file__).resolve().parent.parent
 ARCHIVE = TOP / "target" / "staticlib" / "libbtt.a"
 SHARED = TOP / "target" / "libbtt.so"
 
-# What a parameter is in C: bytes are a pointer and a length, a handle a pointer, a word a u32, a count a pointer to a number.
-BYTES, HANDLE, WORD, COUNT = "bytes", "handle", "word", "count"
+# What a parameter is in C: bytes are a pointer and a length, a handle or a record a pointer, a word a u32, a count a pointer to a number.
+BYTES, HANDLE, RECORD, WORD, COUNT = "bytes", "handle", "record", "word", "count"
 LIBRARY_CALLS = {
     "btt_info_block": (BYTES, COUNT, COUNT),
     "btt_make": (BYTES, WORD, WORD, WORD, BYTES, BYTES),
-    "btt_open": (BYTES, BYTES, HANDLE, COUNT),
-    "btt_cut_open": (BYTES, BYTES, WORD, COUNT),
+    "btt_open": (BYTES, BYTES, WORD, HANDLE, COUNT),
+    "btt_cut_open": (BYTES, BYTES, WORD, WORD, COUNT),
     "btt_read": (BYTES, HANDLE, WORD, BYTES),
     "btt_start": (BYTES, HANDLE, WORD, WORD),
     "btt_step": (BYTES, HANDLE, WORD, BYTES),
     "btt_write": (BYTES, HANDLE, WORD, WORD, BYTES),
+    "btt_lane_record": (BYTES, HANDLE, WORD, RECORD),
+    "btt_next_store": (BYTES, HANDLE, WORD, COUNT),
     "btt_replay": (BYTES, BYTES, BYTES, BYTES, COUNT, COUNT),
 }
 
-# Length and the four starts; sector size, sectors, internal size, blocks, lanes and a reserved word; 16 records of seven words.
+# Length and the four starts; sector size, sectors, internal size, blocks, lanes and the layout; 16 records of seven words.
 HANDLE_FORM = struct.Struct("<5Q6I112I")
 HANDLE_BYTES = HANDLE_FORM.size
+# Where the layout stands in a handle.
+LAYOUT_BYTE = 60
+RECORD_BYTES = 28
 
+# What a number that a call may leave is before the call; it is no offset of an arena.
+UNSET = 0xA5A5A5A5A5A5A5A5
 # Bytes after a lent buffer, which no call may change.
 GUARD = b"\xA7" * 64
 
@@ -42,16 +49,16 @@ def handle_bytes(handle):
     """The 512 bytes of a handle of the model."""
     f = handle.figures
     starts = (f.data, f.map, f.flog, f.copy)
-    sizes = (f.size, f.sectors, f.internal, f.blocks, f.lanes, handle.reserved)
+    sizes = (f.size, f.sectors, f.internal, f.blocks, f.lanes, handle.layout)
     return HANDLE_FORM.pack(handle.length, *starts, *sizes, *itertools.chain.from_iterable(handle.records))
 
 
 def handle_from(data):
     """The handle of the model that these 512 bytes are."""
-    length, data_start, map_start, flog, copy, size, sectors, internal, blocks, lanes, reserved, *words = HANDLE_FORM.unpack(data)
+    length, data_start, map_start, flog, copy, size, sectors, internal, blocks, lanes, layout, *words = HANDLE_FORM.unpack(data)
     figures = model.Figures(size, sectors, internal, blocks, lanes, data_start, map_start, flog, copy)
     records = [calls.Record(*words[i : i + 7]) for i in range(0, len(words), 7)]
-    return calls.Handle(length, figures, records, reserved)
+    return calls.Handle(length, figures, records, layout)
 
 
 def must(*command):
@@ -78,7 +85,7 @@ def built():
 def c_types(kinds):
     """The C types of parameters of these kinds."""
     pointer, length = [ctypes.c_void_p], [ctypes.c_size_t]
-    forms = {BYTES: pointer + length, HANDLE: pointer, WORD: [ctypes.c_uint32], COUNT: pointer}
+    forms = {BYTES: pointer + length, HANDLE: pointer, RECORD: pointer, WORD: [ctypes.c_uint32], COUNT: pointer}
     return [c_type for kind in kinds for c_type in forms[kind]]
 
 
@@ -122,13 +129,13 @@ class Library:
         self.call("btt_info_block", arena, offset, length)
         return offset.value, length.value
 
-    def open(self, arena, work, handle):
+    def open(self, arena, work, layout, handle):
         mended = ctypes.c_uint32(0xA5A5A5A5)
-        return self.call("btt_open", arena, work, handle, mended), mended.value
+        return self.call("btt_open", arena, work, layout, handle, mended), mended.value
 
-    def cut_open(self, arena, work, k):
+    def cut_open(self, arena, work, layout, k):
         mended = ctypes.c_uint32(0xA5A5A5A5)
-        return self.call("btt_cut_open", arena, work, k, mended), mended.value
+        return self.call("btt_cut_open", arena, work, layout, k, mended), mended.value
 
     def read(self, arena, handle, sector, buffer):
         return self.call("btt_read", arena, handle, sector, buffer)
@@ -141,6 +148,15 @@ class Library:
 
     def write(self, arena, handle, lane, sector, buffer):
         return self.call("btt_write", arena, handle, lane, sector, buffer)
+
+    def lane_record(self, arena, handle, lane, record):
+        return self.call("btt_lane_record", arena, handle, lane, record)
+
+    def next_store(self, arena, handle, lane):
+        """The number, and the offset, None if it was left."""
+        offset = ctypes.c_uint64(UNSET)
+        number = self.call("btt_next_store", arena, handle, lane, offset)
+        return number, None if offset.value == UNSET else offset.value
 
     def replay(self, arena, work, log, answers):
         """The number, how many records ran, and the offset; an answer past the buffer's end makes the buffer longer."""
@@ -160,13 +176,13 @@ class ModelLibrary:
     def make(self, arena, size, sectors, lanes, first, second):
         return self.model.make(arena, size, sectors, lanes, first, second)
 
-    def open(self, arena, work, handle):
-        opened = self.model.open_arena(arena, work)
+    def open(self, arena, work, layout, handle):
+        opened = self.model.open_arena(arena, work, layout)
         handle[:] = handle_bytes(self.calls.handle_of(opened, len(arena)))
         return opened.number, opened.mended
 
-    def cut_open(self, arena, work, k):
-        opened = self.model.cut_open(arena, work, k)
+    def cut_open(self, arena, work, layout, k):
+        opened = self.model.cut_open(arena, work, layout, k)
         return opened.number, opened.mended
 
     def read(self, arena, handle, sector, buffer):
@@ -187,6 +203,15 @@ class ModelLibrary:
 
     def write(self, arena, handle, lane, sector, buffer):
         return self.through(self.calls.write, arena, handle, lane, sector, buffer)
+
+    def lane_record(self, arena, handle, lane, record):
+        words = [word for (word,) in struct.iter_unpack("<I", record)]
+        number = self.calls.lane_record(arena, handle_from(handle), lane, words)
+        record[:] = struct.pack("<7I", *words)
+        return number
+
+    def next_store(self, arena, handle, lane):
+        return self.calls.next_store(arena, handle_from(handle), lane)
 
     def replay(self, arena, work, log, answers):
         replayed = self.runlog.replay(arena, work, log)

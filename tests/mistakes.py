@@ -1,7 +1,8 @@
 """The model with one deliberate mistake, in the place of a library, to see that the histories, the runs and the logs find it.
 
 A mistake is an edit of the model's text. Run as a program it says how many histories each takes, and fails if one is not found.
-The mistakes of PROMISED, those of rule 18 and most of the replay are put into both sides as well, where only the promises of the rules can find them.
+The mistakes of PROMISED, those of rule 18, of the layout and most of the replay are put into both sides too, where only the promises of the rules can
+find them.
 """
 import contextlib
 import pathlib
@@ -12,6 +13,7 @@ import types
 import calls
 import checksums
 import histories
+import layout_mistakes
 import library
 import model
 import replay
@@ -27,6 +29,7 @@ LAST = "Record(0, old, 1 - half, model.successor(sequence), 0, 0, 0)"
 OLD = "old = model.block_of(sector, map_word(arena, f, sector))"
 START = "        handle.records[lane] = started("
 STEP = "        handle.records[lane] = stepped(f, record)\n"
+SECOND_STORE = "        put(arena, *store(f, handle.layout, lane, stepped(f, record), buffer))\n"
 STEP_RECORD = "        f, record = handle.figures, handle.records[lane]\n"
 FIELDS = "    busy, block, half, sequence, sector, old, made = record\n    return (\n"
 IDLE_FIELDS = "    sector, old, made = (sector, old, made) if busy else (0, 0, 0)\n"
@@ -41,11 +44,11 @@ CALL_MISTAKES = {
     "flog before the data": (TALLY, "words = f.size // 4; k = (record.made + words) % (words + 4) if record.made < words + 4 else words + 4"),
     "data words in falling order": (TALLY, TALLY + "; k = words - 1 - k if k < words else k"),
     "data into the old block": (DATA, DATA.replace("block", "old")),
-    "the newer half is overwritten": ("16 * record.half + 4 * part", "16 * (1 - record.half) + 4 * part"),
-    "a lane's pair is 32 bytes": ("f.flog + 64 * lane", "f.flog + 32 * lane"),
+    "the newer half is overwritten": ("lane, record.half) + 4 * part", "lane, 1 - record.half) + 4 * part"),
+    "a lane's pair is 32 bytes": ("lane, record.half) + 4 * part", "lane, record.half) - 32 * lane + 4 * part"),
     "map word without its flags": ("DATA_WORD + record.block", "record.block"),
     "map word of the old block": ("DATA_WORD + record.block", "DATA_WORD + record.old"),
-    "two stores in a step": (STEP, STEP + "        if record.made == 1:\n            put(arena, *store(f, lane, stepped(f, record), buffer))\n"),
+    "two stores in a step": (STEP, STEP + "        if record.made == 1:\n    " + SECOND_STORE),
     "old is not handed back": (LAST, LAST.replace("old", "block")),
     "half does not move on": (LAST, LAST.replace("1 - half", "half")),
     "sequence does not move on": (LAST, LAST.replace("model.successor(sequence)", "sequence")),
@@ -98,8 +101,8 @@ FREE = ("Lane(old, 1 - half", "Lane(old if block_of(at, mended[at]) == new else 
 STORES = "    for offset, value in opened.stores[:k]:"
 SIZES_JUDGED = "    if not sizes_allowed(size, sectors, lanes):\n        return 3\n"
 LENGTH_JUDGED = "    if len(arena) != made_figures(size, sectors, lanes).copy + 4096:\n        return 1\n"
-HALF_JUDGED = "        if sector >= f.sectors or old"
-MAP_JUDGED = "        if any(w >> 30 and w & 0x3FFFFFFF >= f.blocks for w in struct.unpack_from('<%dI' % f.sectors, arena, f.map)):\n"
+LANES_FOUND = "    halves = newer_halves(arena, f, layout)\n"
+MAP_JUDGED = "    if any(w >> 30 and w & 0x3FFFFFFF >= f.blocks for w in struct.unpack_from('<%dI' % f.sectors, arena, f.map)):\n"
 
 # The same, of figures, making and opening.
 MODEL_MISTAKES = {
@@ -135,7 +138,7 @@ MODEL_MISTAKES = {
     "the whole work buffer is cleared": ("work[:blocks] = bytes(blocks)", "work[:] = bytes(len(work))"),
     "opening: 7 judges 29 bits": ("word & 0x3FFFFFFF >= f.blocks for", "word & 0x1FFFFFFF >= f.blocks for"),
     "a work buffer of I - 1 will do": ("if room < f.blocks:", "if room < f.blocks - 1:"),
-    "opening: 7 before 6": (HALF_JUDGED, MAP_JUDGED + "            return Opened(7)\n" + HALF_JUDGED),
+    "opening: 7 before 6": (LANES_FOUND, MAP_JUDGED + "        return Opened(7)\n" + LANES_FOUND),
     "opening: 4 before 3": ("    if version != (2, 0) or", "    if flags != 0:\n        return Opened(4)\n    if version != (2, 0) or"),
     "a forbidden first block is passed over": ("if sound(block):", "if sound(block) and figures_allowed(decode(block)[0], len(arena)):"),
     "making touches the data": ("    arena[0:4096] = block\n", "    arena[0:4096] = block\n    arena[4096:4100] = bytes(4)\n"),
@@ -206,6 +209,8 @@ REPLAY_MISTAKES = {
     "a short buffer gets the last answers": (FIT, FIT.replace("answers[:fit])", "answers[len(replayed.answers) - fit :])")),
     "the rest of the answers is cleared": (FIT, FIT + "    answers[fit:] = bytes(len(answers) - fit)\n"),
 }
+
+REPLAYED = {**REPLAY_MISTAKES, **layout_mistakes.REPLAY_MISTAKES}
 
 # Mistakes that the promises find with no library to compare with.
 PROMISED = """sequence before new, map word before the flog, flog before the data, data words in falling order, data into the old block,
@@ -315,7 +320,7 @@ def tried_replays(names):
     """Tries these mistakes of the replay in the place of the library, and on both sides too; says which are not found."""
     missed = ["no such mistake: " + name for name in set(ONLY_COMPARED) - set(REPLAY_MISTAKES)]
     for name in names:
-        began, edit = time.process_time(), REPLAY_MISTAKES[name]
+        began, edit = time.process_time(), REPLAYED[name]
         needed, fault = replays_needed(library.ModelLibrary(runlog_module=edited("runlog", *edit)))
         alone = "-"
         if name not in ONLY_COMPARED:
@@ -328,8 +333,9 @@ def tried_replays(names):
 
 def main(words):
     """Tries every mistake, or those whose names have one of these words."""
-    edits = [("calls", name, edit) for name, edit in {**CALL_MISTAKES, **swapped_orders(), **sloppy_mistakes.CALL_MISTAKES}.items()]
-    edits += [("model", name, edit) for name, edit in {**MODEL_MISTAKES, **sloppy_mistakes.MODEL_MISTAKES}.items()]
+    of_calls = {**CALL_MISTAKES, **swapped_orders(), **sloppy_mistakes.CALL_MISTAKES, **layout_mistakes.CALL_MISTAKES}
+    of_model = {**MODEL_MISTAKES, **sloppy_mistakes.MODEL_MISTAKES, **layout_mistakes.MODEL_MISTAKES}
+    edits = [("calls", name, edit) for name, edit in of_calls.items()] + [("model", name, edit) for name, edit in of_model.items()]
     missed = ["no such mistake: " + name for name in set(PROMISED) - {name for _, name, _ in edits}]
     for module, name, edit in edits:
         if words and not any(word in name for word in words):
@@ -337,14 +343,14 @@ def main(words):
         began = time.process_time()
         needed, fault = histories_needed(mistaken_library(module, edit))
         alone = "-"
-        if name in PROMISED or name.startswith("18: "):
+        if name in PROMISED or name.startswith(("18: ", "layout: ")):
             with on_both_sides(module, edit) as lib:
                 alone, fault = histories_needed(lib)
         missed += [name] if None in (needed, alone) else []
         print("%-48s %5s %5s %6.1f s  %s" % (name, needed, alone, time.process_time() - began, fault.split(", after")[0]), flush=True)
     missed += tried_checksums([name for name in CHECKSUM_MISTAKES if not words or any(word in name for word in words)])
-    missed += tried_replays([name for name in REPLAY_MISTAKES if not words or any(word in name for word in words)])
-    count = len(edits) + len(CHECKSUM_MISTAKES) + len(REPLAY_MISTAKES)
+    missed += tried_replays([name for name in REPLAYED if not words or any(word in name for word in words)])
+    count = len(edits) + len(CHECKSUM_MISTAKES) + len(REPLAYED)
     print("mistakes: %d, not found: %s" % (count, ", ".join(missed) or "none"))
     return 1 if missed else 0
 

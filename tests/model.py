@@ -11,6 +11,8 @@ SIGNATURE = b"BTT_ARENA_INFO\0\0"
 BLOCK = 4096
 MAX_LANES = 16
 REPORT_LIMIT = 65536
+# The layout in which the programs and the replay open.
+PROGRAM_LAYOUT = 16
 
 
 def fletcher64(words):
@@ -50,6 +52,11 @@ class Figures:
 
 def length_allowed(n):
     return n % 4096 == 0 and 20480 <= n <= 16777216
+
+
+def layout_allowed(layout):
+    """Whether the second half of a lane may stand at this byte of the lane."""
+    return layout in (16, 32)
 
 
 def sizes_allowed(size, sectors, lanes):
@@ -158,15 +165,20 @@ def sloppy_word(word):
     return word >> 30 == 0 and word & 0x3FFFFFFF != 0
 
 
-def padding(arena, f, lane):
-    """The 32 bytes of a lane's 64 that are in no half."""
-    start = f.flog + 64 * lane
-    return arena[start + 32 : start + 64]
+def half_start(f, layout, lane, half):
+    """Where a half of a lane begins, the layout being the distance between the two."""
+    return f.flog + 64 * lane + layout * half
 
 
-def sloppy(arena, f, words):
+def padding(arena, f, layout, lane):
+    """The bytes of a lane's 64 that are in neither half: those between the halves and those behind them."""
+    first, second = half_start(f, layout, lane, 0), half_start(f, layout, lane, 1)
+    return arena[first + 16 : second] + arena[second + 16 : first + 64]
+
+
+def sloppy(arena, f, layout, words):
     """Whether one of these map words is sloppy, or a byte of the padding of a lane is not zero."""
-    return any(sloppy_word(word) for word in words) or any(any(padding(arena, f, lane)) for lane in range(f.lanes))
+    return any(sloppy_word(word) for word in words) or any(any(padding(arena, f, layout, lane)) for lane in range(f.lanes))
 
 
 @dataclass
@@ -181,12 +193,30 @@ class Opened:
     number: int
     mended: int = 0
     figures: Figures = None
+    layout: int = 0
     lanes: list = field(default_factory=list)
     stores: list = field(default_factory=list)
 
 
-def judge(arena, room):
-    """Judges an arena and stores nothing; stores are (offset, value)."""
+def newer_halves(arena, f, layout):
+    """Each lane's newer half as (half, sector, old, new, sequence), or None where a lane has none that is in range."""
+    halves = []
+    for lane in range(f.lanes):
+        pair = [struct.unpack_from("<4I", arena, half_start(f, layout, lane, half)) for half in (0, 1)]
+        half = newer_half(pair[0][3], pair[1][3])
+        if half is None:
+            return None
+        sector, old, new, sequence = pair[half]
+        if sector >= f.sectors or old >= f.blocks or new >= f.blocks:
+            return None
+        halves.append((half, sector, old, new, sequence))
+    return halves
+
+
+def judge(arena, room, layout):
+    """Judges an arena in a layout and stores nothing; stores are (offset, value)."""
+    if not layout_allowed(layout):
+        return Opened(16)
     if not length_allowed(len(arena)):
         return Opened(1)
     block = counting_block(arena)
@@ -199,20 +229,13 @@ def judge(arena, room):
         return Opened(4)
     if room < f.blocks:
         return Opened(5)
-    halves = []
-    for lane in range(f.lanes):
-        pair = struct.unpack_from("<8I", arena, f.flog + 64 * lane)
-        half = newer_half(pair[3], pair[7])
-        if half is None:
-            return Opened(6)
-        sector, old, new, sequence = pair[4 * half : 4 * half + 4]
-        if sector >= f.sectors or old >= f.blocks or new >= f.blocks:
-            return Opened(6)
-        halves.append((half, sector, old, new, sequence))
+    halves = newer_halves(arena, f, layout)
+    if halves is None:
+        return Opened(6)
     words = list(struct.unpack_from("<%dI" % f.sectors, arena, f.map))
     if any(word >> 30 != 0 and word & 0x3FFFFFFF >= f.blocks for word in words):
         return Opened(7)
-    if sloppy(arena, f, words):
+    if sloppy(arena, f, layout, words):
         return Opened(18)
     pending = [lane for lane, h in enumerate(halves) if block_of(h[1], words[h[1]]) == h[2]]
     mended = list(words)
@@ -223,12 +246,12 @@ def judge(arena, room):
         return Opened(8)
     lanes = [Lane(old, 1 - half, successor(sequence)) for half, _, old, _, sequence in halves]
     stores = [(f.map + 4 * halves[lane][1], 0xC0000000 + halves[lane][3]) for lane in pending]
-    return Opened(0, len(pending), f, lanes, stores)
+    return Opened(0, len(pending), f, layout, lanes, stores)
 
 
-def cut_open(arena, work, k):
+def cut_open(arena, work, layout, k):
     """Opens in place, making at most k stores; work is cleared as the rules say."""
-    opened = judge(arena, len(work))
+    opened = judge(arena, len(work), layout)
     if opened.number in (0, 6, 7, 18, 8):
         blocks = decode(counting_block(arena))[0].blocks
         work[:blocks] = bytes(blocks)
@@ -237,15 +260,15 @@ def cut_open(arena, work, k):
     return opened
 
 
-def open_arena(arena, work):
-    return cut_open(arena, work, MAX_LANES)
+def open_arena(arena, work, layout):
+    return cut_open(arena, work, layout, MAX_LANES)
 
 
 def report(data):
     """The report on the bytes of an arena."""
     if len(data) > REPORT_LIMIT:
         return "refused 1\n"
-    opened = open_arena(bytearray(data), bytearray(128))
+    opened = open_arena(bytearray(data), bytearray(128), PROGRAM_LAYOUT)
     if opened.number:
         return "refused %d\n" % opened.number
     f = opened.figures

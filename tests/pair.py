@@ -1,5 +1,6 @@
 """One arena and its latest handle, held twice: each call is made by the model and by the library, and all that was lent is compared."""
 import collections
+import struct
 
 import calls
 import library
@@ -61,23 +62,23 @@ class Pair:
         self.compare(("make", size, sectors, lanes, len(first), len(second)), (number,), (got,), (first, names[0]), (second, names[1]))
         return number
 
-    def open(self, room):
-        """Opens with a work buffer of that length; gives the number and the mended count."""
+    def open(self, room, layout):
+        """Opens in that layout with a work buffer of that length; gives the number and the mended count."""
         work = self.rng.randbytes(room)
         ours, theirs = bytearray(work), bytearray(work)
-        opened = model.open_arena(self.arena, ours)
+        opened = model.open_arena(self.arena, ours, layout)
         self.handle, self.lent_handle = calls.handle_of(opened, len(self.arena)), bytearray(self.rng.randbytes(library.HANDLE_BYTES))
-        got = self.lib.open(self.lent, theirs, self.lent_handle)
-        self.compare(("open", room), (opened.number, opened.mended), got, (ours, theirs))
+        got = self.lib.open(self.lent, theirs, layout, self.lent_handle)
+        self.compare(("open", room, layout), (opened.number, opened.mended), got, (ours, theirs))
         return opened.number, opened.mended
 
-    def cut_open(self, room, k):
+    def cut_open(self, room, layout, k):
         """As open, but with at most k stores, and no handle."""
         work = self.rng.randbytes(room)
         ours, theirs = bytearray(work), bytearray(work)
-        opened = model.cut_open(self.arena, ours, k)
-        got = self.lib.cut_open(self.lent, theirs, k)
-        self.compare(("cut_open", room, k), (opened.number, opened.mended), got, (ours, theirs))
+        opened = model.cut_open(self.arena, ours, layout, k)
+        got = self.lib.cut_open(self.lent, theirs, layout, k)
+        self.compare(("cut_open", room, layout, k), (opened.number, opened.mended), got, (ours, theirs))
         return opened.number, opened.mended
 
     def read(self, sector, length):
@@ -109,6 +110,21 @@ class Pair:
         self.compare(("write", lane, sector, len(buffer)), (number,), (got,), (buffer, theirs))
         return number
 
+    def lane_record(self, lane):
+        """Asks for a lane's record; gives the number and the record, None if what was lent is as it was."""
+        before = self.rng.randbytes(library.RECORD_BYTES)
+        words, theirs = list(struct.unpack("<7I", before)), bytearray(before)
+        number = calls.lane_record(self.arena, self.handle, lane, words)
+        got = self.lib.lane_record(self.lent, self.lent_handle, lane, theirs)
+        self.compare(("lane_record", lane), (number,), (got,), (struct.pack("<7I", *words), theirs))
+        return number, None if theirs == before else calls.Record(*words)
+
+    def next_store(self, lane):
+        """Asks where the lane's next step stores; gives the number and the offset, None if that was left."""
+        expected = calls.next_store(self.arena, self.handle, lane)
+        self.compare(("next_store", lane), expected, self.lib.next_store(self.lent, self.lent_handle, lane))
+        return expected
+
     def perform(self, name, lane, sector, lent):
         """The call of that name, with these bytes or random ones of that length; gives its number."""
         buffer = self.rng.randbytes(lent) if isinstance(lent, int) else lent
@@ -116,6 +132,8 @@ class Pair:
             return self.read(sector, len(buffer))[0]
         if name == "start":
             return self.start(lane, sector)
+        if name in ("lane_record", "next_store"):
+            return getattr(self, name)(lane)[0]
         return self.step(lane, buffer) if name == "step" else self.write(lane, sector, buffer)
 
     def put(self, stores):

@@ -8,6 +8,12 @@ SIZES = ((512, 1, 1), (512, 3, 2), (512, 20, 4), (512, 60, 4), (512, 80, 16), (4
 SMALL = ((512, 1, 1), (512, 2, 1), (512, 3, 2), (512, 5, 3), (512, 6, 6), (512, 20, 4))
 WIDE = ((512, 60, 4), (512, 30, 16), (512, 80, 16))
 LARGE_SECTORS = ((4096, 1, 1), (4096, 3, 2), (4096, 5, 3))
+# The layouts, and in each the bytes of a lane's 64 that are in neither half.
+LAYOUTS = (16, 32)
+PADDING = {16: tuple(range(32, 64)), 32: (*range(16, 32), *range(48, 64))}
+# Layouts that are refused: beside those allowed, their sum and doubles, and numbers that end as they do.
+REFUSED_LAYOUTS = (0, 1, 8, 15, 17, 24, 31, 33, 47, 48, 49, 64, 256, 4096, 2**31, 2**32 - 16, 2**32 - 1)
+REFUSED_LAYOUTS += (16 + 2**8, 16 + 2**16, 32 + 2**16, 32 + 2**31)
 
 
 def small_sizes(rng):
@@ -17,7 +23,7 @@ def small_sizes(rng):
 
 
 def spread(rng, size, sectors, lanes):
-    """A layout that is allowed, with a gap before some parts."""
+    """Figures that are allowed, with a gap before some parts."""
     f = model.made_figures(size, sectors, lanes)
     gap = 0
     for name in ("data", "map", "flog", "copy"):
@@ -26,10 +32,18 @@ def spread(rng, size, sectors, lanes):
     return f
 
 
-def valid(rng, sizes=SIZES, layout=spread):
+def other_layout(layout):
+    return 16 if layout == 32 else 32
+
+
+def a_refused_layout(rng):
+    return rng.choice(REFUSED_LAYOUTS + (2 * rng.randrange(32, 2**31), 16 << rng.randrange(2, 28)))
+
+
+def valid(rng, layout, sizes=SIZES, lie=spread):
     """An arena with every block mapped or free once, sectors in all four states, some lanes pending, and anything in what no rule judges."""
     size, sectors, lanes = rng.choice(sizes)
-    f = layout(rng, size, sectors, lanes)
+    f = lie(rng, size, sectors, lanes)
     arena = bytearray(rng.randbytes(f.copy + 4096))
     block = model.info_block(f, rng.randbytes(16), rng.randbytes(16), unnamed=rng.randbytes(rng.choice((0, 3968))))
     arena[:4096] = arena[-4096:] = block
@@ -39,15 +53,8 @@ def valid(rng, sizes=SIZES, layout=spread):
     mapped, free = blocks[:sectors], blocks[sectors:]
     targets = rng.sample(range(sectors), lanes)
     for lane in range(lanes):
-        sector, new, old = targets[lane], free[lane], free[lane]
-        if rng.random() < 0.4:
-            old, new = mapped[sector], free[lane]
-        half, sequence = rng.randrange(2), rng.randint(1, 3)
-        older = rng.choice((0, (sequence + 1) % 3 + 1))
-        start = f.flog + 64 * lane
-        struct.pack_into("<I", arena, start + 16 * (1 - half) + 12, older)
-        struct.pack_into("<IIII", arena, start + 16 * half, sector, old, new, sequence)
-        arena[start + 32 : start + 64] = bytes(32)
+        old = mapped[targets[lane]] if rng.random() < 0.4 else free[lane]
+        logged(rng, arena, f.flog + 64 * lane, layout, (targets[lane], old, free[lane]))
     for sector in range(sectors):
         flags = rng.choice((1, 2, 3, 3))
         word = flags << 30 | mapped[sector]
@@ -57,15 +64,25 @@ def valid(rng, sizes=SIZES, layout=spread):
     return arena, f
 
 
-def aged(rng, arena, f):
+def logged(rng, arena, lane, layout, write):
+    """Makes one half of the lane at that byte the newer one, with this sector, old and new; of the other only the sequence is put."""
+    half, sequence = rng.randrange(2), rng.randint(1, 3)
+    older = rng.choice((0, (sequence + 1) % 3 + 1))
+    struct.pack_into("<I", arena, lane + layout * (1 - half) + 12, older)
+    struct.pack_into("<IIII", arena, lane + layout * half, *write, sequence)
+    for byte in PADDING[layout]:
+        arena[lane + byte] = 0
+
+
+def aged(rng, arena, f, layout):
     """A valid arena whose lanes that are not pending name any sector and any new block, as old writes leave them."""
-    for lane in range(f.lanes):
-        pair = struct.unpack_from("<8I", arena, f.flog + 64 * lane)
-        half = model.newer_half(pair[3], pair[7])
-        old, new = pair[4 * half + 1 : 4 * half + 3]
+    for lane in range(f.flog, f.flog + 64 * f.lanes, 64):
+        first, second = [struct.unpack_from("<4I", arena, lane + layout * half) for half in (0, 1)]
+        half = model.newer_half(first[3], second[3])
+        _, old, new, _ = second if half else first
         if old == new and rng.random() < 0.5:
-            struct.pack_into("<I", arena, f.flog + 64 * lane + 16 * half, rng.randrange(f.sectors))
-            struct.pack_into("<I", arena, f.flog + 64 * lane + 16 * half + 8, rng.randrange(f.blocks))
+            struct.pack_into("<I", arena, lane + layout * half, rng.randrange(f.sectors))
+            struct.pack_into("<I", arena, lane + layout * half + 8, rng.randrange(f.blocks))
     return arena
 
 
@@ -80,12 +97,12 @@ def a_sloppy_word(rng):
     return rng.choice((1, 5, 2**30 - 1, 1 << rng.randrange(30), rng.randrange(1, 2**30)))
 
 
-def sloppy(rng, arena, f):
+def sloppy(rng, arena, f, layout):
     """An arena with one sloppy map word, or one byte of the padding of a lane that is not zero."""
     if rng.random() < 0.5:
         struct.pack_into("<I", arena, f.map + 4 * rng.randrange(f.sectors), a_sloppy_word(rng))
     else:
-        arena[f.flog + 64 * rng.randrange(f.lanes) + rng.randrange(32, 64)] = rng.randint(1, 255)
+        arena[f.flog + 64 * rng.randrange(f.lanes) + rng.choice(PADDING[layout])] = rng.randint(1, 255)
     return arena
 
 
@@ -94,13 +111,13 @@ def past_the_last(rng, f, block):
     return block | 1 << rng.choice((29, 16, rng.randrange(f.blocks.bit_length(), 30)))
 
 
-def damaged(rng):
+def damaged(rng, layout):
     """A valid arena with one or two things changed: a word of the flog, of the map or of an info block, padding, or the length."""
-    arena, f = valid(rng)
+    arena, f = valid(rng, layout)
     for _ in range(rng.randint(1, 2)):
         place = rng.choice(("flog", "map", "sloppy", "info", "figure", "length"))
         if place == "flog":
-            at = f.flog + 64 * rng.randrange(f.lanes) + 4 * rng.randrange(8)
+            at = f.flog + 64 * rng.randrange(f.lanes) + layout * rng.randrange(2) + 4 * rng.randrange(4)
             struct.pack_into("<I", arena, at, rng.choice((0, 1, 2, 3, 4, f.blocks - 1, f.blocks, rng.getrandbits(32))))
         elif place == "map":
             sector = rng.randrange(f.sectors)
@@ -109,7 +126,7 @@ def damaged(rng):
             low = rng.choice((0, rng.randrange(f.blocks), f.blocks, past_the_last(rng, f, block)))
             struct.pack_into("<I", arena, at, rng.randrange(4) << 30 | low)
         elif place == "sloppy":
-            sloppy(rng, arena, f)
+            sloppy(rng, arena, f, layout)
         elif place == "info":
             arena[rng.choice((0, len(arena) - 4096)) + rng.randrange(4096)] ^= 1 << rng.randrange(8)
         elif place == "figure":
@@ -127,6 +144,7 @@ def damaged(rng):
 
 
 def random_arenas(count, seed=2):
+    """Random arenas for the report, most of them in the layout that it opens."""
     rng = random.Random(seed)
     for _ in range(count):
-        yield bytes((valid if rng.random() < 0.4 else damaged)(rng)[0])
+        yield bytes((valid if rng.random() < 0.4 else damaged)(rng, rng.choice((16, 16, 16, 32)))[0])

@@ -8,14 +8,15 @@ LENGTHS = (0, 1, 3, 4, 4, 5, 6, 6, 8, 10, 10, 12, 260, 262, 266, 65535)
 
 
 def an_arena(rng):
-    """An arena that opens, with lanes pending or not, and seldom a damaged or a sloppy one."""
+    """An arena that opens, with lanes pending or not, and seldom a damaged or a sloppy one, or one of the other layout."""
     sizes, chance = random_arenas.small_sizes(rng), rng.random()
     if chance < 0.05:
-        return random_arenas.damaged(rng)
-    arena, f = random_arenas.valid(rng, (sizes,))
-    arena = random_arenas.aged(rng, arena, f)
+        return random_arenas.damaged(rng, 16)
+    layout = 32 if chance > 0.97 else 16
+    arena, f = random_arenas.valid(rng, layout, (sizes,))
+    arena = random_arenas.aged(rng, arena, f, layout)
     if chance < 0.08:
-        return random_arenas.sloppy(rng, arena, f), f
+        return random_arenas.sloppy(rng, arena, f, layout), f
     return (random_arenas.one_sound_block(rng, arena) if rng.random() < 0.1 else arena), f
 
 

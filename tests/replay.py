@@ -92,7 +92,7 @@ def last_writes(rows, answers, words, notes):
 def sectors(lib, image):
     """What the library reads of each sector once it has opened the arena: number and bytes."""
     arena, handle = bytearray(image), bytearray(library.HANDLE_BYTES)
-    number, _ = lib.open(arena, bytearray(AMPLE), handle)
+    number, _ = lib.open(arena, bytearray(AMPLE), model.PROGRAM_LAYOUT, handle)
     if number:
         raise Difference("the arena is refused with %d" % number)
     f, row = library.handle_from(handle).figures, []
@@ -125,7 +125,7 @@ def note(notes, log, replayed):
 
 def room_needed(image):
     """The least work buffer that 5 allows; of an arena that is refused before 5 any."""
-    if model.judge(image, 0).number != 5:
+    if model.judge(image, 0, model.PROGRAM_LAYOUT).number != 5:
         return 64
     return model.decode(model.counting_block(image))[0].blocks
 

@@ -1,9 +1,9 @@
 """Compares what the programs and the library do with the model.
 
-The report is run on every arena of tests/arenas, on random ones and on those of sloppy.py; what `cases`, `runs` and `replay` must write
-(rt runs them) has to be what the model works out; the checksums of random runs of words and of changed info blocks are the model's; the
-library goes through random histories of calls, call by call beside the model; the kept run logs of tests/logs and random ones are replayed
-by the library and the program.
+The report is run on every arena of tests/arenas, on random ones and on those of sloppy.py and layouts.py; what `cases`, `runs` and `replay`
+must write (rt runs them) has to be what the model works out; the checksums of random runs of words and of changed info blocks are the
+model's; the library goes through random histories of calls, call by call beside the model; the kept run logs of tests/logs and random ones
+are replayed by the library and the program.
 """
 import collections
 import pathlib
@@ -15,6 +15,7 @@ import arenas
 import cases
 import checksums
 import histories
+import layouts
 import library
 import model
 import random_arenas
@@ -51,13 +52,13 @@ def check_report(arena):
 
 def answer_of(arena):
     """The number that the model answers for these bytes."""
-    return model.judge(bytearray(arena), 128).number if len(arena) <= model.REPORT_LIMIT else 1
+    return model.judge(bytearray(arena), 128, model.PROGRAM_LAYOUT).number if len(arena) <= model.REPORT_LIMIT else 1
 
 
 def check_sloppy():
     """What is wrong with the reports on the arenas of sloppy.py, as lines."""
     wrong, answers = [], collections.Counter()
-    for what, number, arena, _ in sloppy.all_arenas():
+    for what, number, arena, _ in sloppy.all_arenas(model.PROGRAM_LAYOUT):
         due = number if len(arena) <= model.REPORT_LIMIT else 1
         fault = check_report(bytes(arena)) or (None if answer_of(arena) == due else "the model answers %d, not %d" % (answer_of(arena), due))
         answers[due] += 1
@@ -67,10 +68,25 @@ def check_sloppy():
     return wrong
 
 
+def check_layouts():
+    """What is wrong with the reports on the arenas of layouts.py, and with replays of an empty log on them, as lines."""
+    wrong, count = [], 0
+    for what, arena, number, mended in layouts.in_layout_16():
+        told, count = model.report(arena), count + 1
+        if not told.startswith("refused %d\n" % number if number else "sector bytes 512\nsectors 60\nlanes 4\nmended %d\n" % mended):
+            wrong.append("%s: the model's report is %r" % (what, told))
+        fault = check_report(arena)
+        if fault is None and replay.written(arena, b"") != ("refused %d\n" % number if number else ""):
+            fault = "the replay is not refused with %d" % number
+        wrong += ["%s: %s" % (what, fault)] if fault else []
+    print("tests: %d reports and replays of arenas of both layouts" % count)
+    return wrong
+
+
 def check_running_cases():
-    """What is wrong with the text of cases 9 and 10, as lines."""
+    """What is wrong with the text of case 9, its twin and case 10, as lines."""
     written = running_cases.text()
-    wrong = ["runs: the paper has %r" % line for line in running_cases.not_as_the_paper(written)]
+    wrong = ["runs: the paper has %r" % line for line in running_cases.not_as_the_paper()]
     if (running_cases.RUNS / "stdout").read_text() != written:
         wrong.append("runs: the stored text is not the model's")
     return wrong
@@ -123,7 +139,7 @@ def main():
     if (cases.CASES / "stdout").read_text() != cases.text():
         wrong.append("cases: the stored text is not the model's")
     lib = library.built()
-    wrong += check_sloppy() + check_running_cases() + check_checksums(lib) + check_histories(lib) + check_replays(lib)
+    wrong += check_sloppy() + check_layouts() + check_running_cases() + check_checksums(lib) + check_histories(lib) + check_replays(lib)
     for line in wrong:
         print("tests: " + line)
     print("tests: %d named and %d random arenas, answers %s, %d faults" % (len(built), RANDOM, dict(sorted(answers.items())), len(wrong)))

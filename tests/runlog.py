@@ -48,8 +48,8 @@ def lent(index, size):
 
 
 def opened(arena, work):
-    """Opens with the lent work buffer; gives the number and the handle."""
-    found = model.open_arena(arena, work)
+    """Opens in layout 16 with the lent work buffer; gives the number and the handle."""
+    found = model.open_arena(arena, work, model.PROGRAM_LAYOUT)
     return found.number, calls.handle_of(found, len(arena))
 
 

@@ -19,84 +19,84 @@ SIZES = ((512, 5, 3), (512, 20, 4), (512, 80, 16))
 # What opening judges after the work buffer's length.
 AFTER_5 = (0, 6, 7, 18, 8)
 
-# What makes the fresh arena sloppy: a word or padding, at both ends, or both at once.
+# What makes the fresh arena sloppy in a layout: a word or padding, at both ends, or both at once.
 SLOPPY = (
-    lambda arena: arenas.mapped(arena, 0, 1),
-    lambda arena: arenas.mapped(arena, 59, 0x3FFFFFFF),
-    lambda arena: arenas.padded(arena, 0, 32, 1),
-    lambda arena: arenas.padded(arena, 3, 63, 0x80),
-    lambda arena: arenas.padded(arenas.mapped(arena, 7, 5), 1, 47, 0xFF),
+    lambda arena, layout: arenas.mapped(arena, 0, 1),
+    lambda arena, layout: arenas.mapped(arena, 59, 0x3FFFFFFF),
+    lambda arena, layout: arenas.padded(arena, 0, {16: 32, 32: 16}[layout], 1),
+    lambda arena, layout: arenas.padded(arena, 3, 63, 0x80),
+    lambda arena, layout: arenas.padded(arenas.mapped(arena, 7, 5), 1, {16: 47, 32: 31}[layout], 0xFF),
 )
 
-# Other faults of the fresh arena, with their numbers.
+# Other faults of the fresh arena in a layout, with their numbers.
 FAULTS = (
-    (1, lambda arena: arena[:-1]),
-    (2, lambda arena: arenas.damaged(arena, 20, arenas.COPY + 20)),
-    (3, lambda arena: arenas.with_blocks(arena, version=(1, 1))),
-    (3, lambda arena: arena[:-4096]),
-    (4, lambda arena: arenas.with_blocks(arena, flags=1)),
-    (6, lambda arena: arenas.half(arena, 0, 0, 0, 60, 60, 0)),
-    (6, lambda arena: arenas.half(arena, 3, 1, 0, 0, 0, 4)),
-    (6, lambda arena: arenas.half(arena, 3, 1, 60, 7, 63, 2)),
-    (6, lambda arena: arenas.half(arena, 1, 1, 7, 64, 61, 2)),
-    (6, lambda arena: arenas.half(arena, 1, 1, 7, 7, 64, 2)),
-    (7, lambda arena: arenas.mapped(arena, 1, 0x40000040)),
-    (7, lambda arena: arenas.mapped(arena, 30, 0xBFFFFFFF)),
-    (7, lambda arena: arenas.mapped(arena, 58, 0xC0000040)),
-    (8, lambda arena: arenas.mapped(arena, 5, 0xC0000006)),
-    (8, lambda arena: arenas.half(arena, 0, 1, 7, 61, 61, 2)),
-    (8, lambda arena: arenas.half(arenas.half(arena, 0, 1, 7, 7, 60, 2), 1, 1, 7, 7, 61, 2)),
+    (1, lambda arena, layout: arena[:-1]),
+    (2, lambda arena, layout: arenas.damaged(arena, 20, arenas.COPY + 20)),
+    (3, lambda arena, layout: arenas.with_blocks(arena, version=(1, 1))),
+    (3, lambda arena, layout: arena[:-4096]),
+    (4, lambda arena, layout: arenas.with_blocks(arena, flags=1)),
+    (6, lambda arena, layout: arenas.half(arena, 0, 0, 0, 60, 60, 0, layout)),
+    (6, lambda arena, layout: arenas.half(arena, 3, 1, 0, 0, 0, 4, layout)),
+    (6, lambda arena, layout: arenas.half(arena, 3, 1, 60, 7, 63, 2, layout)),
+    (6, lambda arena, layout: arenas.half(arena, 1, 1, 7, 64, 61, 2, layout)),
+    (6, lambda arena, layout: arenas.half(arena, 1, 1, 7, 7, 64, 2, layout)),
+    (7, lambda arena, layout: arenas.mapped(arena, 1, 0x40000040)),
+    (7, lambda arena, layout: arenas.mapped(arena, 30, 0xBFFFFFFF)),
+    (7, lambda arena, layout: arenas.mapped(arena, 58, 0xC0000040)),
+    (8, lambda arena, layout: arenas.mapped(arena, 5, 0xC0000006)),
+    (8, lambda arena, layout: arenas.half(arena, 0, 1, 7, 61, 61, 2, layout)),
+    (8, lambda arena, layout: arenas.half(arenas.half(arena, 0, 1, 7, 7, 60, 2, layout), 1, 1, 7, 7, 61, 2, layout)),
 )
 
 
 # Arenas, each as what it shows, the number that its opening must answer, its bytes and its figures.
 
 
-def made(rng):
+def made(rng, layout):
     """A made arena, whose map words are all zero."""
     sizes = rng.choice(SIZES)
     return model.made(*sizes), model.made_figures(*sizes)
 
 
-def valid(rng):
-    return random_arenas.valid(rng, SIZES)
+def valid(rng, layout):
+    return random_arenas.valid(rng, layout, SIZES)
 
 
 def gapped(rng, size, sectors, lanes):
-    """A layout with a gap before every part."""
+    """Figures with a gap before every part."""
     f = model.made_figures(size, sectors, lanes)
     return model.Figures(size, sectors, size, f.blocks, lanes, f.data + 4096, f.map + 8192, f.flog + 12288, f.copy + 16384)
 
 
-def with_padding(rng):
+def with_padding(rng, layout):
     """Each byte of padding not zero, alone, on the first, a middle and the last lane."""
-    for offset in range(32, 64):
+    for offset in random_arenas.PADDING[layout]:
         for place in ("the first", "a middle", "the last"):
-            arena, f = rng.choice((made, valid))(rng)
+            arena, f = rng.choice((made, valid))(rng, layout)
             lane = {"the first": 0, "a middle": f.lanes // 2, "the last": f.lanes - 1}[place]
             arena[f.flog + 64 * lane + offset] = rng.randint(1, 255)
             yield "byte %d of %s lane" % (offset, place), 18, arena, f
 
 
-def with_word(rng):
+def with_word(rng, layout):
     """Sloppy words in the first, the last and any sector, each low bit alone, a sector's own number, and a sector whose write is pending."""
     for word in (1, 5, 0x3FFFFFFF, rng.randrange(1, 2**30)):
         for place in ("the first", "any", "the last"):
             for base in (made, valid):
-                arena, f = base(rng)
+                arena, f = base(rng, layout)
                 sector = {"the first": 0, "any": rng.randrange(f.sectors), "the last": f.sectors - 1}[place]
                 yield "word %#x of %s sector" % (word, place), 18, put(arena, f, sector, word), f
     for bit in range(30):
-        arena, f = made(rng)
+        arena, f = made(rng, layout)
         yield "bit %d of a word" % bit, 18, put(arena, f, rng.randrange(f.sectors), 1 << bit), f
     for place in (1, 0, -1):
-        arena, f = made(rng)
+        arena, f = made(rng, layout)
         sector = place % f.sectors or rng.randrange(1, f.sectors)
         yield "a sector's own number", 18, put(arena, f, sector, sector), f
     for word in (1, 0x3FFFFFFF):
-        arena, f = made(rng)
+        arena, f = made(rng, layout)
         lane, sector = rng.randrange(f.lanes), rng.randrange(f.sectors)
-        struct.pack_into("<4I", arena, f.flog + 64 * lane + 16, sector, sector, f.sectors + lane, 2)
+        struct.pack_into("<4I", arena, f.flog + 64 * lane + layout, sector, sector, f.sectors + lane, 2)
         yield "the sector of a pending lane", 18, put(arena, f, sector, word), f
 
 
@@ -105,16 +105,16 @@ def put(arena, f, sector, word):
     return arena
 
 
-def unjudged(rng):
+def unjudged(rng, layout):
     """Anything in one part that no rule judges and zeroes in the others, anything in all, and unnamed info bytes: all of these open."""
     for sizes in SIZES:
         for chosen in ("before the data", "behind the data", "behind the map", "behind the flog", "everywhere"):
-            arena, f = random_arenas.valid(rng, (sizes,), gapped)
+            arena, f = random_arenas.valid(rng, layout, (sizes,), gapped)
             for part, start, end in parts(f):
                 # Every word of these bytes would be sloppy in a map.
                 arena[start:end] = bytes(rng.choices(range(1, 64), k=end - start)) if chosen in (part, "everywhere") else bytes(end - start)
             yield "anything " + chosen, 0, arena, f
-        arena, f = random_arenas.valid(rng, (sizes,))
+        arena, f = random_arenas.valid(rng, layout, (sizes,))
         arena[:4096] = arena[-4096:] = model.info_block(f, rng.randbytes(16), rng.randbytes(16), unnamed=rng.randbytes(3968))
         yield "anything in unnamed info bytes", 0, arena, f
 
@@ -127,36 +127,37 @@ def parts(f):
     yield "behind the flog", f.flog + 64 * f.lanes, f.copy
 
 
-def two_faults():
+def two_faults(layout):
     """The fresh arena with each other fault and sloppy in each way: 8 alone gives way to 18."""
     for number, fault in FAULTS:
         for sloppy in SLOPPY:
-            yield "18 beside %d" % number, 18 if number == 8 else number, fault(sloppy(arenas.fresh())), arenas.FIGURES
+            yield "18 beside %d" % number, 18 if number == 8 else number, fault(sloppy(arenas.fresh(), layout), layout), arenas.FIGURES
 
 
-def all_arenas(seed=18):
+def all_arenas(layout, seed=18):
     rng = random.Random(seed)
-    for rows in (with_padding(rng), with_word(rng), unjudged(rng), two_faults()):
+    for rows in (with_padding(rng, layout), with_word(rng, layout), unjudged(rng, layout), two_faults(layout)):
         yield from rows
 
 
 def try_openings(lib, notes):
     """Opens each arena, with a work buffer of I bytes and a shorter one, after cut openings; a refusal leaves the arena."""
     rng = random.Random(1)
-    for what, number, arena, f in all_arenas():
-        pair = Pair(lib, arena, rng, notes)
-        for room, k in ((f.blocks - 1, 1), (f.blocks, 0), (f.blocks + 3, 1)):
-            demand(pair, what, pair.cut_open(room, k)[0], 5 if room < f.blocks and number in AFTER_5 else number)
-        for room in (f.blocks - 1, f.blocks):
-            demand(pair, what, pair.open(room)[0], 5 if room < f.blocks and number in AFTER_5 else number)
-        check_left(pair, what, number, arena, f)
+    for layout in random_arenas.LAYOUTS:
+        for what, number, arena, f in all_arenas(layout):
+            pair = Pair(lib, arena, rng, notes)
+            for room, k in ((f.blocks - 1, 1), (f.blocks, 0), (f.blocks + 3, 1)):
+                demand(pair, what, pair.cut_open(room, layout, k)[0], 5 if room < f.blocks and number in AFTER_5 else number)
+            for room in (f.blocks - 1, f.blocks):
+                demand(pair, what, pair.open(room, layout)[0], 5 if room < f.blocks and number in AFTER_5 else number)
+            check_left(pair, what, number, arena, f, layout)
 
 
-def check_left(pair, what, number, arena, f):
+def check_left(pair, what, number, arena, f, layout):
     """What an opening leaves, told without the model: a work buffer cleared up to I or untouched; after a refusal the arena, and no handle."""
     lent, work, handle = bytearray(arena), bytearray(pair.rng.randbytes(f.blocks + 3)), bytearray(pair.rng.randbytes(library.HANDLE_BYTES))
     due = bytes(f.blocks) + work[f.blocks :] if number in AFTER_5 else bytes(work)
-    demand(pair, what, pair.lib.open(lent, work, handle)[0], number)
+    demand(pair, what, pair.lib.open(lent, work, layout, handle)[0], number)
     if work != due:
         pair.fail("not so: the work buffer ends as the rules say, " + what)
     if number and (lent != arena or any(handle)):
@@ -179,9 +180,9 @@ def demand_kept(pair, arena, handle):
 def try_orders(lib, notes):
     """Every number before 18 in a call's order, by a live handle and by forged ones; a step judges no word."""
     rng = random.Random(2)
-    for sizes in SIZES:
+    for sizes, layout in zip(SIZES, (16, 32, 16), strict=True):
         pair = Pair(lib, model.made(*sizes), rng, notes)
-        pair.open(AMPLE)
+        pair.open(AMPLE, layout)
         f = pair.handle.figures
         for lane, sector in ((0, f.sectors - 1), (f.lanes - 1, f.lanes)):
             for number, handle in forged.refusing(pair.handle, lane, sector):
@@ -202,8 +203,8 @@ def try_orders(lib, notes):
 
 def try_other_map(lib, rng, notes):
     """A forged handle with another start of the map, all its figures allowed: the word that lies there is judged."""
-    pair = Pair(lib, random_arenas.valid(rng, SIZES, gapped)[0], rng, notes)
-    pair.open(AMPLE)
+    pair = Pair(lib, random_arenas.valid(rng, 32, SIZES, gapped)[0], rng, notes)
+    pair.open(AMPLE, 32)
     f, handle = pair.handle.figures, pair.handle.copy()
     handle.figures.map = f.map - 4096
     for sector in (0, f.sectors - 1):
@@ -230,10 +231,12 @@ class Live:
 
     def __init__(self, lib, seed, notes):
         self.rng = rng = random.Random(seed)
-        sizes = (random_arenas.small_sizes(rng),)
-        arena = model.made(*sizes[0]) if rng.random() < 0.5 else random_arenas.aged(rng, *random_arenas.valid(rng, sizes))
+        sizes, self.layout = (random_arenas.small_sizes(rng),), rng.choice(random_arenas.LAYOUTS)
+        arena = model.made(*sizes[0])
+        if rng.random() < 0.5:
+            arena = random_arenas.aged(rng, *random_arenas.valid(rng, self.layout, sizes), self.layout)
         self.pair = Pair(lib, arena, rng, notes)
-        self.demand("a valid arena", self.pair.open(AMPLE)[0], 0)
+        self.demand("a valid arena", self.pair.open(AMPLE, self.layout)[0], 0)
         self.f, self.row = self.pair.handle.figures, book.Row(self.pair.arena, self.pair.handle.figures)
         self.sectors, self.padding = {}, {}
 
@@ -263,8 +266,8 @@ class Live:
         """Makes a word sloppy, most often of a sector in flight, or padding."""
         rng, f = self.rng, self.f
         if rng.random() < 0.3:
-            at, value, kept = f.flog + 64 * rng.randrange(f.lanes) + rng.randrange(32, 64, 4), 1 << rng.randrange(32), self.padding
-            place = at
+            place = at = f.flog + 64 * rng.randrange(f.lanes) + rng.choice(random_arenas.PADDING[self.layout]) // 4 * 4
+            value, kept = 1 << rng.randrange(32), self.padding
         else:
             flying = [write.sector for write in self.row.flying.values()]
             place = rng.choice(flying) if flying and rng.random() < 0.7 else rng.randrange(f.sectors)
@@ -277,8 +280,10 @@ class Live:
         flying, reads = self.row.flying, name == "read"
         if not reads and lane >= self.f.lanes:
             return 11
-        if name == "step":
-            return 14 if lane not in flying else 10 if length != self.f.size else 0
+        if name in ("step", "next_store"):
+            return 14 if lane not in flying else 10 if name == "step" and length != self.f.size else 0
+        if name == "lane_record":
+            return 0
         if not reads and lane in flying:
             return 12
         if sector >= self.f.sectors:
@@ -305,11 +310,11 @@ class Live:
         elif name == "step":
             sector = self.row.flying[lane].sector
             self.row.step(lane, buffer)
-        else:
+        elif name in ("start", "write"):
             self.row.start(lane, sector)
             if name == "write":
                 self.row.whole(lane, buffer, self.row.words + 5)
-        if due == 0 and lane not in self.row.flying:
+        if due == 0 and name in ("step", "write") and lane not in self.row.flying:
             self.sectors.pop(sector, None)
 
     def steps(self, lane, aim):
@@ -326,11 +331,11 @@ class Live:
         stood, pair = [*self.sectors.values(), *self.padding.values()], self.pair
         pair.drop()
         if stood:
-            self.demand("a cut opening of a sloppy arena", pair.cut_open(AMPLE, 1)[0], 18)
-            self.demand("an opening of a sloppy arena", pair.open(AMPLE)[0], 18)
+            self.demand("a cut opening of a sloppy arena", pair.cut_open(AMPLE, self.layout, 1)[0], 18)
+            self.demand("an opening of a sloppy arena", pair.open(AMPLE, self.layout)[0], 18)
             self.demand("a read by the handle of a refused opening", pair.read(0, self.f.size)[0], 16)
             pair.put(stood)
-        number, mended = pair.open(AMPLE)
+        number, mended = pair.open(AMPLE, self.layout)
         self.demand("an arena that is sloppy no more", number, 0)
         self.demand("the count of lanes pending", mended, self.row.cut())
         if book.Row(pair.arena, self.f).sectors != self.row.sectors:

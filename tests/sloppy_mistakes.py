@@ -1,18 +1,20 @@
 """Mistakes of rule 18 for mistakes.py: edits of the model's text, each the text that a mistake takes the place of and the text it has instead."""
 import calls
+import random_arenas
 
-JUDGED = "    if sloppy(arena, f, words):\n        return Opened(18)\n"
+JUDGED = "    if sloppy(arena, f, layout, words):\n        return Opened(18)\n"
 BLOCKS_JUDGED = "    if any(word >> 30 != 0 and word & 0x3FFFFFFF >= f.blocks for word in words):\n        return Opened(7)\n"
 WORDS = '    words = list(struct.unpack_from("<%dI" % f.sectors, arena, f.map))\n'
 LOST = "        return Opened(8)\n"
-HALVES = "    halves = []\n"
+HALVES = "    halves = newer_halves(arena, f, layout)\n"
+LOST_LANE = "    if halves is None:\n        return Opened(6)\n"
 LANE_READ = "        halves.append((half, sector, old, new, sequence))\n"
 ROOM = "    if room < f.blocks:\n"
 FLAGS = "    if flags != 0:\n"
 LOW_BITS = "return word >> 30 == 0 and word & 0x3FFFFFFF != 0"
 ANY_WORD = "any(sloppy_word(word) for word in words)"
-ANY_PADDING = "any(any(padding(arena, f, lane)) for lane in range(f.lanes))"
-PADDING = "return arena[start + 32 : start + 64]"
+ANY_PADDING = "any(any(padding(arena, f, layout, lane)) for lane in range(f.lanes))"
+PADDING = "return arena[first + 16 : second] + arena[second + 16 : first + 64]"
 OWNED = "    owned = ["
 COPY_MADE = "    arena[f.copy :] = block\n"
 WORD_BY_WORD = """    for word in words:
@@ -21,6 +23,12 @@ WORD_BY_WORD = """    for word in words:
         if sloppy_word(word):
             return Opened(18)
 """
+
+
+def left_out(byte, layout):
+    """A return of the padding in which one byte of it passes in one layout."""
+    rest = "byte >= 16 and not 0 <= byte - layout < 16 and (byte, layout) != (%d, %d)" % (byte, layout)
+    return "return [value for byte, value in enumerate(arena[first : first + 64]) if %s]" % rest
 
 
 def refused(condition):
@@ -39,7 +47,10 @@ MODEL_MISTAKES = {
     "18: judged before 6": (HALVES, WORDS + JUDGED + HALVES),
     "18: words judged before 6": (HALVES, WORDS + refused(ANY_WORD) + HALVES),
     "18: padding judged before 6": (HALVES, refused(ANY_PADDING) + HALVES),
-    "18: padding judged with 6, lane by lane": (LANE_READ, LANE_READ + "        if any(padding(arena, f, lane)):\n            return Opened(18)\n"),
+    "18: padding judged with 6, lane by lane": (
+        LANE_READ, LANE_READ + "        if any(padding(arena, f, layout, lane)):\n            return 18\n",
+        LOST_LANE, "    if halves in (None, 18):\n        return Opened(halves or 6)\n",
+    ),
     "18: judged before 5": (ROOM, WORDS + JUDGED + ROOM),
     "18: judged before 4": (FLAGS, WORDS + JUDGED + FLAGS),
     "18: low bits ignored": (LOW_BITS, "return False"),
@@ -59,12 +70,12 @@ MODEL_MISTAKES = {
     "18: padding of the first lane left out": (ANY_PADDING, ANY_PADDING.replace("range(", "range(1, ")),
     "18: padding of the last lane left out": (ANY_PADDING, ANY_PADDING.replace("f.lanes", "f.lanes - 1")),
     "18: padding of lanes between left out": (ANY_PADDING, ANY_PADDING.replace("range(f.lanes)", "{0, f.lanes - 1}")),
-    "18: padding from byte 36": (PADDING, PADDING.replace("32", "36")),
+    "18: padding from the second word behind the halves": (PADDING, PADDING.replace("second + 16", "second + 20")),
     "18: padding to byte 59": (PADDING, PADDING.replace("64", "60")),
-    "18: even bytes of padding pass": (PADDING, "return [byte & 1 for byte in arena[start + 32 : start + 64]]"),
-    "18: the second half judged as padding": (PADDING, PADDING.replace("32", "16")),
-    "18: the second half's sequence judged as padding": (PADDING, PADDING.replace("32", "28")),
-    "18: bytes 16 to 31 and 48 to 63 are the padding": (PADDING, "return arena[start + 16 : start + 32] + arena[start + 48 : start + 64]"),
+    "18: even bytes of padding pass": (PADDING, "return [byte & 1 for byte in arena[first + 16 : second] + arena[second + 16 : first + 64]]"),
+    "18: the second half judged as padding": (PADDING, PADDING.replace("second + 16", "second")),
+    "18: the second half's sequence judged as padding": (PADDING, PADDING.replace("second + 16", "second + 12")),
+    "18: the first half's sequence judged as padding": (PADDING, PADDING.replace("first + 16", "first + 12")),
     "18: 64 bytes after the last lane judged": (ANY_PADDING, ANY_PADDING.replace("f.lanes", "f.lanes + 1")),
     "18: the byte after each lane judged": (PADDING, PADDING.replace("64", "65")),
     "18: the rest of the flog's page judged": (JUDGED, JUDGED + refused("any(arena[f.flog + 64 * f.lanes : f.copy])")),
@@ -80,8 +91,9 @@ MODEL_MISTAKES = {
     ),
 }
 MODEL_MISTAKES.update(
-    ("18: padding byte %d left out" % byte, (PADDING, "return arena[start + 32 : start + %d] + arena[start + %d : start + 64]" % (byte, byte + 1)))
-    for byte in range(32, 64)
+    ("18: padding byte %d left out in layout %d" % (byte, layout), (PADDING, left_out(byte, layout)))
+    for layout, padding in random_arenas.PADDING.items()
+    for byte in padding
 )
 
 WORD_JUDGED = "return model.sloppy_word(word)"
@@ -97,7 +109,7 @@ BEFORE_LAST = "\n    if number == 18 and handle.records[lane].made < handle.figu
 CALL_MISTAKES = {
     "18: a step judges its word": STEP_JUDGES,
     "18: a step judges its word at the last store": (*STEP_JUDGES[:3], STEP_JUDGES[3] + BEFORE_LAST),
-    "18: calls judge the padding too": (WORD_JUDGED, WORD_JUDGED + " or any(any(model.padding(arena, f, n)) for n in range(f.lanes))"),
+    "18: calls judge the padding too": (WORD_JUDGED, WORD_JUDGED + " or any(any(model.padding(arena, f, handle.layout, n)) for n in range(f.lanes))"),
     "18: calls judge every word": (WORD_JUDGED, "return any(model.sloppy_word(map_word(arena, f, n)) for n in range(f.sectors))"),
     "18: calls judge the first sector's word": (WORD_JUDGED, "return model.sloppy_word(map_word(arena, f, 0))"),
     "18: calls let a sector's own number pass": (WORD_JUDGED, WORD_JUDGED + " and word != sector"),

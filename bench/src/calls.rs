@@ -1,6 +1,9 @@
 //! The calls that are timed, each giving its answer's number, so that the library and the plain program are driven by the same loops.
 use btt::{Answer, Handle, INFO_SIZE};
 
+/// The layout in which the arenas are opened.
+pub const LAYOUT: u32 = 16;
+
 pub trait Calls {
     fn info_block(arena: &[u8]) -> (u64, u64);
     fn open(arena: &mut [u8], work: &mut [u8], handle: &mut Handle, mended: &mut u32) -> u32;
@@ -22,7 +25,7 @@ impl Calls for Plain {
     }
 
     fn open(arena: &mut [u8], work: &mut [u8], handle: &mut Handle, mended: &mut u32) -> u32 {
-        let opened = plain::open(arena, work);
+        let opened = plain::open(arena, work, LAYOUT);
         (*handle, *mended) = opened.map_or((Handle::default(), 0), |opened| (opened.handle, opened.mended));
         number(opened.map(|_| ()))
     }

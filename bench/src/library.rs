@@ -1,5 +1,5 @@
 //! The proved library through its C interface, as host/rust declares it.
-use crate::calls::Calls;
+use crate::calls::{Calls, LAYOUT};
 use btt::sys::{btt_info_block, btt_open, btt_read, btt_start, btt_step, btt_write};
 use btt::Handle;
 
@@ -15,7 +15,7 @@ impl Calls for Library {
     }
 
     fn open(arena: &mut [u8], work: &mut [u8], handle: &mut Handle, mended: &mut u32) -> u32 {
-        unsafe { btt_open(arena.as_mut_ptr(), arena.len(), work.as_mut_ptr(), work.len(), handle, mended) }
+        unsafe { btt_open(arena.as_mut_ptr(), arena.len(), work.as_mut_ptr(), work.len(), LAYOUT, handle, mended) }
     }
 
     fn read(arena: &[u8], handle: &Handle, sector: u32, buffer: &mut [u8]) -> u32 {

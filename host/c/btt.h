@@ -39,9 +39,20 @@ enum btt_answer {
     BTT_SECTOR_BUSY = 13,       /* another lane has that sector in flight */
     BTT_LANE_IDLE = 14,         /* the lane has no write in flight */
     BTT_BAD_SECTOR = 15,        /* the sector read is marked bad: its map word has bit 30 (Error) alone */
-    BTT_BAD_HANDLE = 16,        /* the handle breaks a figure, has a record out of range, or does not match the arena's length */
+    BTT_BAD_HANDLE = 16,        /* the handle breaks a figure, has a record out of range, or does not match the arena's length; or a layout,
+                                   the handle's or the one that an opening is told, is neither 16 nor 32 */
     BTT_SLOPPY = 18,            /* a map word with neither flag is not 0, or the padding of a lane is not */
     BTT_BAD_RECORD = 20         /* a record of the log is short, has another length than its kind, or an unknown kind; or the log is too long */
+};
+
+/*
+ * Where a lane keeps the second half of its flog pair: so many bytes after the first, within its 64 bytes. The bytes of neither half are
+ * padding. Nothing in an arena says its layout. One that is just made opens in both; from the first write to a lane's second half on it
+ * opens in one only, and the other is refused with 18, where no answer before that applies.
+ */
+enum btt_layout {
+    BTT_LAYOUT_NEAR = 16,       /* the usual one: the second half follows the first */
+    BTT_LAYOUT_FAR = 32         /* 16 bytes of padding stand between them */
 };
 
 enum {
@@ -80,7 +91,7 @@ struct btt_handle {
     uint32_t internal;                      /* bytes of a block: those of a sector */
     uint32_t blocks;                        /* sectors + lanes */
     uint32_t lanes;                         /* 1 to 16 */
-    uint32_t reserved;                      /* opening writes 0; not judged, and not changed by any other call */
+    uint32_t layout;                        /* the one that opening was told, 16 or 32; another value is answered with 16 */
     struct btt_lane lane[BTT_MAX_LANES];    /* those past the lanes are 0 after opening; not judged, and not changed by any other call */
 };
 
@@ -110,19 +121,22 @@ uint32_t btt_make(uint8_t *arena, size_t arena_length, uint32_t size, uint32_t s
 void btt_info_block(const uint8_t *arena, size_t arena_length, uint64_t *offset, uint64_t *length);
 
 /*
- * Opens an arena: all is judged before anything is stored, then each pending lane is mended by one store to the map.
+ * Opens an arena in a layout, BTT_LAYOUT_NEAR or BTT_LAYOUT_FAR, which the handle then carries: all is judged before anything is stored,
+ * then each pending lane is mended by one store to the map.
  * The work buffer needs a byte for each block. On 0, 6, 7, 8 and 18 as many of its bytes as there are blocks are 0 afterwards, the rest and
- * on 1 to 5 all of it is unchanged. *mended is the number of lanes that were pending.
- * Answers 1 to 7, 18, 8 in order, 18 over all map words and all lanes; a refusal leaves the arena, makes *mended 0 and all of *handle
- * zeroes.
+ * on 1 to 5 and 16 all of it is unchanged. *mended is the number of lanes that were pending.
+ * Answers 16 (the layout is neither), 1 to 7, 18, 8 in order, 18 over all map words and all lanes; a refusal leaves the arena, makes
+ * *mended 0 and all of *handle zeroes.
  */
-uint32_t btt_open(uint8_t *arena, size_t arena_length, uint8_t *work, size_t work_length, struct btt_handle *handle, uint32_t *mended);
+uint32_t btt_open(uint8_t *arena, size_t arena_length, uint8_t *work, size_t work_length, uint32_t layout, struct btt_handle *handle,
+                  uint32_t *mended);
 
 /*
  * An opening that stops after its first k stores, or makes all if there are fewer, as a power cut would stop it. It answers, counts and
  * leaves the work buffer as btt_open does, and gives no handle.
  */
-uint32_t btt_cut_open(uint8_t *arena, size_t arena_length, uint8_t *work, size_t work_length, uint32_t k, uint32_t *mended);
+uint32_t btt_cut_open(uint8_t *arena, size_t arena_length, uint8_t *work, size_t work_length, uint32_t layout, uint32_t k,
+                      uint32_t *mended);
 
 /*
  * Reads a sector into a buffer of a sector's length: what the last finished write stored, or zeroes where the sector was never written
@@ -171,6 +185,7 @@ uint32_t btt_next_store(const uint8_t *arena, size_t arena_length, const struct 
  * Records are numbered from 0, all of them and on across kind 3. A record that is refused has its answer and does not end the replay. One
  * that is short, has another length than its kind, or is of another kind ends it with 20; what ran before stays. A log that is longer ends
  * with 20 at offset 0, after the opening.
+ * No layout is told: every opening is in layout 16.
  * The work buffer is as for btt_open. answers gets a byte for each record that ran, its answer; a short buffer gets the first that fit, all
  * else being as with a long one, and bytes past those are unchanged. *records is the number of records that ran, and *stopped the byte
  * offset at which the record begins that ended the replay, 0 if none did.
@@ -200,7 +215,7 @@ static inline const char *btt_answer_text(uint32_t answer)
         "another lane has that sector in flight",
         "the lane has no write in flight",
         "the sector is marked bad",
-        "the handle does not fit the arena, or has a record out of range"
+        "the handle does not fit the arena or has a record out of range, or a layout is neither 16 nor 32"
     };
 
     if (answer == BTT_SLOPPY) {

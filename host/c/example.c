@@ -80,13 +80,16 @@ static void make(struct disk *d)
     persist(d->arena, d->length);
 }
 
-/* Opening needs a byte to work in for each block; the map words that it mended are flushed before the first write. */
+/*
+ * Opening needs a byte to work in for each block, and the layout of the flog, which the arena does not say: this one's is the usual one.
+ * The map words that it mended are flushed before the first write.
+ */
 static void open_disk(struct disk *d)
 {
     uint32_t mended;
     uint8_t *work = room(SECTORS + LANES);
 
-    must("open", btt_open(d->arena, d->length, work, SECTORS + LANES, &d->handle, &mended));
+    must("open", btt_open(d->arena, d->length, work, SECTORS + LANES, BTT_LAYOUT_NEAR, &d->handle, &mended));
     free(work);
     persist(d->arena + d->handle.map, 4 * (size_t)d->handle.sectors);
     printf("opened: %u sectors of %u bytes, %u mended\n", (unsigned)d->handle.sectors, (unsigned)d->handle.size, (unsigned)mended);

@@ -17,7 +17,7 @@ use Rattle.layout.specs.declared.Figures.{Figures}
 use Rattle.layout.specs.declared.Told.{Told}
 use Rattle.machine.specs.declared.handle.Handle as packed
 use Rattle.machine.specs.state.Flog.{mapWord}
-use Rattle.machine.specs.state.Handle.{Handle, ToldOk}
+use Rattle.machine.specs.state.Handle.{Handle}
 use Rattle.machine.specs.state.Packed.{zeroHandle, packedUp}
 use Rattle.machine.specs.calls.Opening.{
   figuresIn,
@@ -43,16 +43,16 @@ use Rattle.mend.specs.Mend.{Mendable}
 use Rattle.arena.specs.Calls.{packedOpening, handleRead}
 use Rattle.arena.proofs.Cut.{outcome, open-refused, open-done}
 
-module _ (t : Told) (told : ToldOk t) (a work : List ℕ) (n : ℕ) (f : Figures) (e : n ≡ openNumber t a (length work)) (z : eqb n 0 ≡ true)
+module _ (t : Told) (a work : List ℕ) (n : ℕ) (f : Figures) (e : n ≡ openNumber t a (length work)) (z : eqb n 0 ≡ true)
     (fe : f ≡ judgedFigures (openNumber t a (length work)) a) where
   opens : Opens t a
-  opens = open-zero t told a (length work) (sym e ∙ eqb-true n 0 z) .0
+  opens = open-zero t a (length work) (sym e ∙ eqb-true n 0 z) .0
 
   pub figures-are : f ≡ figuresIn a
   figures-are = fe ∙ rw (← e, z)
 
   fits : Fit (t .distance) f (length a)
-  fits = rw figures-are (described-fit t told a (opens .info))
+  fits = rw figures-are (described-fit t a (opens .info))
 
   pub mendable : Mendable (t .distance) f a
   mendable = record {
@@ -63,7 +63,7 @@ module _ (t : Told) (told : ToldOk t) (a work : List ℕ) (n : ℕ) (f : Figures
   -- the arena with every store made
   module _ (small : Small a) where
     judged : Consistent (layoutOf (t .distance) f) a
-    judged = rw figures-are (opens-consistent t told a opens small)
+    judged = rw figures-are (opens-consistent t a opens small)
 
     after-length : length (mended (layoutOf (t .distance) f) a) ≡ length a
     after-length = let g = layoutOf (t .distance) f in putAll-length g (mends g a (g .N)) a
@@ -96,10 +96,10 @@ module _ (t : Told) (a work after left : List ℕ) (n count : ℕ) (c : outcome 
   refuses z h e =
       rw e (ap packedOpening (c ∙ open-refused t a work maxLanes (λ y. eqb-false n 0 z (ap (λ (o : Opening). o .number) c ∙ y))))
 
-  module _ (told : ToldOk t) (z : eqb n 0 ≡ true) (small : Small a) (f : Figures)
+  module _ (z : eqb n 0 ≡ true) (small : Small a) (f : Figures)
       (fe : f ≡ judgedFigures (openNumber t a (length work)) a) where
     are : f ≡ figuresIn a
-    are = figures-are t told a work n f number-is z fe
+    are = figures-are t a work n f number-is z fe
 
     -- with the handle
     abbrev given : Opening → Opening
@@ -107,7 +107,7 @@ module _ (t : Told) (a work after left : List ℕ) (n count : ℕ) (c : outcome 
 
     done : given (cutOpenOf t a work maxLanes) ≡ openOf t a work
     done =
-        let m = mendable t told a work n f number-is z fe in
+        let m = mendable t a work n f number-is z fe in
         let few : (layoutIn t a) .N ≤ maxLanes = unfold layoutOf in (rw are at (m .all .fit .few)) in
         open-done t a work maxLanes (ap (λ (o : Opening). o .number) (sym c) ∙ eqb-true n 0 z) few
 
@@ -119,11 +119,11 @@ module _ (t : Told) (a work after left : List ℕ) (n count : ℕ) (c : outcome 
         opened = unfold openOf in (rw (← number-is, z))
 
     pub readable : AllFit (t .distance) f after
-    readable = rw after-is (all-fit t told a work n f number-is z fe small)
+    readable = rw after-is (all-fit t a work n f number-is z fe small)
 
     pub accepts : (h : packed.Handle) → h ≡ packedUp (handleRead (t .distance) f after)
         → record { number = n; mended = count; arena = after; handle = h; work = left } ≡ packedOpening (openOf t a work)
     accepts h e =
         let read = ap (λ (x : List ℕ). packedUp (handleRead (t .distance) f x)) after-is in
-        let p : h ≡ packedUp (handleFor t a) = e ∙ read ∙ ap packedUp (handle-is t told a work n f number-is z fe small) in
+        let p : h ≡ packedUp (handleFor t a) = e ∙ read ∙ ap packedUp (handle-is t a work n f number-is z fe small) in
         rw p (ap (λ (o : Opening). packedOpening (given o)) c ∙ ap packedOpening done)

@@ -14,7 +14,6 @@ use mend::mend;
 ghost use mathlib.Core.Path.{_≡_};
 ghost use lib.ListN.{length};
 ghost use Rattle.layout.specs.Told.{alone};
-ghost use Rattle.machine.specs.state.Handle.{ToldOk};
 ghost use Rattle.machine.specs.state.Packed.{packedUp};
 ghost use Rattle.machine.specs.calls.Opening.{openNumber, openOf, cutOpenOf};
 ghost use Rattle.lanes.specs.Fit.{AllFit};
@@ -42,7 +41,6 @@ struct Mending {
 
 // Judges all as it is told, then makes the first k mending stores, or all if there are fewer.
 fn judge_and_mend(arena: &mut [u8], told: Told, work: &mut [u8], k: u32) -> Mending
-    requires { ⌜ ToldOk told ⌝ }
     ensures { λ r. ⌜ cutGave (r .opened) (now (arena .exit)) (now (work .exit))
         ≡ cutOpenOf told (now (arena .entry)) (now (work .entry)) k ⌝ }
     ensures { λ r. let n = openNumber told (now (arena .entry)) (length (now (work .entry))) in
@@ -73,10 +71,11 @@ fn judge_and_mend(arena: &mut [u8], told: Told, work: &mut [u8], k: u32) -> Mend
 }
 
 // A cut opening: told k, it is refused as opening is, and else makes the first k of opening's stores.
-pub fn cut_open(arena: &mut [u8], work: &mut [u8], k: u32) -> CutOpened
-    ensures { λ r. ⌜ cutGave r (now (arena .exit)) (now (work .exit)) ≡ cutOpenOf alone (now (arena .entry)) (now (work .entry)) k ⌝ }
+pub fn cut_open(arena: &mut [u8], work: &mut [u8], distance: u32, k: u32) -> CutOpened
+    ensures { λ r. ⌜ cutGave r (now (arena .exit)) (now (work .exit))
+        ≡ cutOpenOf (alone distance) (now (arena .entry)) (now (work .entry)) k ⌝ }
 {
-    let m = judge_and_mend(arena, alone(), work, k);
+    let m = judge_and_mend(arena, alone(distance), work, k);
     m.opened
 }
 
@@ -95,17 +94,18 @@ fn handle_of(a: &[u8], f: Figures, d: u32) -> Handle
     }
     Handle {
         length: a.len() as u64,
+        distance: d,
         figures: f,
         lanes: lanes,
     }
 }
 
-// Opens an arena: judges all, mends the pending lanes through the cut opening, and gives the handle.
-pub fn open(arena: &mut [u8], work: &mut [u8]) -> Opened
+// Opens an arena in the layout whose halves start so far apart: judges all, mends the pending lanes through the cut opening, and gives the handle.
+pub fn open(arena: &mut [u8], work: &mut [u8], distance: u32) -> Opened
     ensures { λ r. ⌜ openGave r (now (arena .exit)) (now (work .exit))
-        ≡ packedOpening (openOf alone (now (arena .entry)) (now (work .entry))) ⌝ }
+        ≡ packedOpening (openOf (alone distance) (now (arena .entry)) (now (work .entry))) ⌝ }
 {
-    let told = alone();
+    let told = alone(distance);
     let m = judge_and_mend(arena, told, work, MAX_LANES);
     let opened = m.opened;
     let answer = opened.answer;

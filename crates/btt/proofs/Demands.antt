@@ -11,7 +11,6 @@ use Rattle.machine.specs.models.Row.{Keeping, wordByWord, lastBuffer, OneBuffer
 use Rattle.machine.specs.models.Book.{bookAfter}
 use Rattle.machine.specs.claims.DemandTwo.{FollowsRow}
 use Rattle.machine.specs.claims.DemandThree.{Listed, AsBooked, AfterCut, Promised}
-use Rattle.machine.proofs.opening.Described.{told-alone}
 use Rattle.machine.proofs.invariant.Held.{held-open}
 use Rattle.machine.proofs.invariant.Histories.{held-small}
 use Rattle.machine.proofs.invariant.Asides.{latest-state, latest-heard}
@@ -20,6 +19,7 @@ use Rattle.machine.proofs.book.DemandThree.{demand-three}
 use Rattle.btt.specs.Calls.{bttOpenOf}
 use Rattle.btt.specs.HostList.{HostState, openedHost, StandsFor, SameEvents}
 use Rattle.btt.specs.HostDemands.{HostFollowsRow, HostBooked, HostPromised, HostDemands}
+use Rattle.btt.proofs.Fits.{layout-held}
 use Rattle.btt.proofs.Same.{read-same}
 use Rattle.btt.proofs.Listing.{first-same, calls-same, events-same}
 
@@ -34,57 +34,58 @@ unfolding plain latestOf
 plain-latest [] = refl
 plain-latest (e ∷ es) = ap (λ (ds : List Event). e ∷ ds) (plain-latest es)
 
-plain-harmless : (es : List Event) (x : State) → AllHarmless alone x (plain es)
+plain-harmless : (d : ℕ) (es : List Event) (x : State) → AllHarmless (alone d) x (plain es)
 unfolding plain
-plain-harmless [] x = tt
-plain-harmless (e ∷ es) x = (tt, plain-harmless es (afterOne alone x (latest e)))
+plain-harmless d [] x = tt
+plain-harmless d (e ∷ es) x = (tt, plain-harmless d es (afterOne (alone d) x (latest e)))
 
-module _ (a work : List ℕ) (es : List Event) (small : Small a) (small-events : SmallEvents es) (z : (openOf alone a work) .number ≡ 0) where
+module _ (d : ℕ) (a work : List ℕ) (es : List Event) (small : Small a) (small-events : SmallEvents es) (z : (openOf (alone d) a work) .number ≡ 0) where
   abbrev x : State
-  x = openedFrom alone a work
+  x = openedFrom (alone d) a work
 
   smalls : SmallEvents (latestOf (plain es))
   smalls = rw (plain-latest es) small-events
 
-  same : SameEvents (openedHost (bttOpenOf a work)) x es
+  same : SameEvents d (openedHost (bttOpenOf d a work)) x es
   same =
-      events-same (openedHost (bttOpenOf a work)) x es (first-same a work small z)
-      (held-small alone told-alone x (held-open alone told-alone a work small z))
+      events-same d (openedHost (bttOpenOf d a work)) x es (first-same d a work small z)
+      (held-small (alone d) x (held-open (alone d) a work small z))
 
   -- whatever the row keeps, the host follows it where the machine does
-  host-follows : (keep : Keeping) → FollowsRow keep alone a work (plain es) → HostFollowsRow keep a work es
+  host-follows : (keep : Keeping) → FollowsRow keep (alone d) a work (plain es) → HostFollowsRow keep d a work es
   host-follows keep follows =
-      let heard = rw (plain-latest es) at (latest-heard alone told-alone (plain es) x (plain-harmless es x)) in
-      let left = rw (plain-latest es) at (latest-state alone told-alone (plain es) x (plain-harmless es x)) in
+      let heard = rw (plain-latest es) at (latest-heard (alone d) (plain es) x (plain-harmless d es x)) in
+      let left = rw (plain-latest es) at (latest-state (alone d) (plain es) x (plain-harmless d es x)) in
       record {
         replies = same .replies ∙ sym heard ∙ (rw (plain-latest es) at (follows .replies));
         reads = λ s buffer. read-same _ _ _ s buffer (same .leaves .handle)
             ∙ rw (same .leaves .arena) (rw (left, plain-latest es) at (follows .reads s buffer));
+        layout = layout-held _ _ (same .leaves .handle) ∙ (rw left at (follows .layout));
       }
 
-  host-words : HostFollowsRow wordByWord a work es
-  host-words = host-follows wordByWord (demand-two .words a work (plain es) small smalls z (plain-harmless es x))
+  host-words : HostFollowsRow wordByWord d a work es
+  host-words = host-follows wordByWord (demand-two .words d a work (plain es) small smalls z (plain-harmless d es x))
 
-  host-one : OneBuffer (figuresIn a) (firstRow (openedFrom alone a work)) es → HostFollowsRow lastBuffer a work es
-  host-one one = host-follows lastBuffer (demand-two .follows a work (plain es) small smalls z (plain-harmless es x) (rw (plain-latest es) one))
+  host-one : OneBuffer (figuresIn a) (firstRow (openedFrom (alone d) a work)) es → HostFollowsRow lastBuffer d a work es
+  host-one one = host-follows lastBuffer (demand-two .follows d a work (plain es) small smalls z (plain-harmless d es x) (rw (plain-latest es) one))
 
 -- ---- demand 3
 
-module _ (y : HostState) (x : State) (cs : List Call) (bytes : ℕ → List ℕ) (k : StandsFor y x) (l : Listed alone x cs bytes) where
-  promised : Promised alone x cs bytes
-  promised = demand-three .promised x cs bytes l
+module _ (d : ℕ) (y : HostState) (x : State) (cs : List Call) (bytes : ℕ → List ℕ) (k : StandsFor y x) (l : Listed (alone d) x cs bytes) where
+  promised : Promised (alone d) x cs bytes
+  promised = demand-three .promised d x cs bytes l
 
-  host-booked : (p : List Call) → AsBooked alone x bytes p → HostBooked y x bytes p
+  host-booked : (p : List Call) → AsBooked (alone d) x bytes p → HostBooked d y x bytes p
   host-booked p b =
       let s = calls-same y x p k in
       record { answers = s .replies ∙ b .answers; arena = λ stores m. s .leaves .arena ∙ b .arena stores m }
 
-  host-promised : HostPromised y x cs bytes
+  host-promised : HostPromised d y x cs bytes
   host-promised = record {
     booked = λ p rest e. host-booked p (promised .booked p rest e);
     cut-booked = λ p rest e. host-booked p (promised .cut-booked p rest e);
     cut = λ p rest e work u.
-        subst (λ (a : List ℕ). AfterCut alone (x .arena) (x .handle) bytes a (bookAfter alone (x .arena) [] p) work)
+        subst (λ (a : List ℕ). AfterCut (alone d) (x .arena) (x .handle) bytes a (bookAfter (alone d) (x .arena) [] p) work)
         (sym (calls-same y x p k .leaves .arena)) (promised .cut p rest e work u);
   }
 

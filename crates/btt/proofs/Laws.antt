@@ -37,10 +37,10 @@ use Rattle.btt.specs.Gave as gave
 
 -- ---- opening
 
-module _ (a work : List ℕ) (r : Opened) (arena left : List ℕ) (e : openGave r arena left ≡ packedOpening (openOf alone a work))
+module _ (d : ℕ) (a work : List ℕ) (r : Opened) (arena left : List ℕ) (e : openGave r arena left ≡ packedOpening (openOf (alone d) a work))
     (n : ℕ) (k : n ≡ numberOf (r .answer)) where
   pub open-refused : eqb (numberOf (r .answer)) 0 ≡ false → (handle : List ℕ) → handle ≡ replicate 512 0
-      → gave.opened n (r .mended) arena handle left ≡ bttOpenOf a work
+      → gave.opened n (r .mended) arena handle left ≡ bttOpenOf d a work
   unfolding bttOpenOf
   open-refused t handle z =
       rw (
@@ -54,7 +54,7 @@ module _ (a work : List ℕ) (r : Opened) (arena left : List ℕ) (e : openGave 
       )
 
   pub open-done : eqb (numberOf (r .answer)) 0 ≡ true → (handle : List ℕ) → handle ≡ putWords (replicate 512 0) 0 (handleWords (r .handle))
-      → gave.opened n (r .mended) arena handle left ≡ bttOpenOf a work
+      → gave.opened n (r .mended) arena handle left ≡ bttOpenOf d a work
   unfolding bttOpenOf encodeHandle
   open-done t handle z =
       rw (

@@ -35,7 +35,6 @@ use Rattle.machine.specs.calls.History.{
 use Rattle.machine.proofs.rules.Runs.{runs-related, says-alike}
 use Rattle.machine.proofs.calls.Accepted.{step-found}
 use Rattle.machine.proofs.calls.Running.{handle-fit}
-use Rattle.machine.proofs.opening.Described.{told-alone}
 use Rattle.machine.proofs.opening.Opening.{opening-claim}
 use Rattle.machine.proofs.invariant.Held.{held-open}
 use Rattle.machine.proofs.invariant.Histories.{opening-cases, held-small}
@@ -84,12 +83,12 @@ call-small x (write l s buffer) small =
     (λ t. rw t (steps-small (writeStores (laidOut (x .handle))) (x .arena) (o .handle) l buffer small))
     (λ t. rw t small)
 
-event-small : (x : State) (e : Event) → Small (x .arena) → Small ((afterEvent alone x e) .arena)
-event-small x (called c) small = call-small x c small
-event-small x (opened work) small =
-    let o = openedState (openOf alone (x .arena) work) in
-    opening-cases alone told-alone x work (λ y. Small (y .arena))
-    (λ z. held-small alone told-alone o (held-open alone told-alone (x .arena) work small z)) small
+event-small : (d : ℕ) (x : State) (e : Event) → Small (x .arena) → Small ((afterEvent (alone d) x e) .arena)
+event-small d x (called c) small = call-small x c small
+event-small d x (opened work) small =
+    let o = openedState (openOf (alone d) (x .arena) work) in
+    opening-cases (alone d) x work (λ y. Small (y .arena))
+    (λ z. held-small (alone d) o (held-open (alone d) (x .arena) work small z)) small
 
 -- ---- one call
 
@@ -114,36 +113,36 @@ call-replies y x (write l s buffer) k =
 
 -- ---- one opening
 
-pub first-same : (a work : List ℕ) → Small a → (openOf alone a work) .number ≡ 0
-    → StandsFor (openedHost (bttOpenOf a work)) (openedFrom alone a work)
+pub first-same : (d : ℕ) (a work : List ℕ) → Small a → (openOf (alone d) a work) .number ≡ 0
+    → StandsFor (openedHost (bttOpenOf d a work)) (openedFrom (alone d) a work)
 unfolding bttOpenOf
-first-same a work small z = record { arena = refl; handle = opened-holds a work small z }
+first-same d a work small z = record { arena = refl; handle = opened-holds d a work small z }
 
 -- a host has what stands for the machine's, and the arena is bytes
 abbrev Beside : HostState → State → Type 0
 Beside y x = StandsFor y x × Small (x .arena)
 
 -- an accepted opening's bytes are the latest, and a refused one leaves the arena and the latest as they were
-opening-leaves : (y : HostState) (x : State) (work : List ℕ) → Beside y x
-    → StandsFor (hostAfterEvent y (opened work)) (afterEvent alone x (opened work))
+opening-leaves : (d : ℕ) (y : HostState) (x : State) (work : List ℕ) → Beside y x
+    → StandsFor (hostAfterEvent d y (opened work)) (afterEvent (alone d) x (opened work))
 unfolding bttOpenOf
-opening-leaves y x work k =
+opening-leaves d y x work k =
     rw (k .0 .arena)
-    (by-bool (eqb ((openOf alone (x .arena) work) .number) 0) _
-    (λ t. rw t (record { arena = refl; handle = rw t at (opened-holds (x .arena) work (k .1) (eqb-true _ _ t)) }))
+    (by-bool (eqb ((openOf (alone d) (x .arena) work) .number) 0) _
+    (λ t. rw t (record { arena = refl; handle = rw t at (opened-holds d (x .arena) work (k .1) (eqb-true _ _ t)) }))
     (λ t. rw t (record {
-      arena = opening-claim alone told-alone .refused (x .arena) work (eqb-false _ _ t) .arena;
+      arena = opening-claim (alone d) .refused (x .arena) work (eqb-false _ _ t) .arena;
       handle = k .0 .handle;
     })))
 
-event-kept : (y : HostState) (x : State) (e : Event) → Beside y x → Beside (hostAfterEvent y e) (afterEvent alone x e)
-event-kept y x (called c) k = (call-leaves y x c (k .0), event-small x (called c) (k .1))
-event-kept y x (opened work) k = (opening-leaves y x work k, event-small x (opened work) (k .1))
+event-kept : (d : ℕ) (y : HostState) (x : State) (e : Event) → Beside y x → Beside (hostAfterEvent d y e) (afterEvent (alone d) x e)
+event-kept d y x (called c) k = (call-leaves y x c (k .0), event-small d x (called c) (k .1))
+event-kept d y x (opened work) k = (opening-leaves d y x work k, event-small d x (opened work) (k .1))
 
-event-replies : (y : HostState) (x : State) (e : Event) → Beside y x → hostReplyEvent y e ≡ replyEvent alone x e
+event-replies : (d : ℕ) (y : HostState) (x : State) (e : Event) → Beside y x → hostReplyEvent d y e ≡ replyEvent (alone d) x e
 unfolding bttOpenOf
-event-replies y x (called c) k = call-replies y x c (k .0)
-event-replies y x (opened work) k = rw (k .0 .arena)
+event-replies d y x (called c) k = call-replies y x c (k .0)
+event-replies d y x (opened work) k = rw (k .0 .arena)
 
 -- ---- lists
 
@@ -155,14 +154,14 @@ calls-same y x cs k = record {
   leaves = runs-related hostAfter after (λ _. Unit {0}) StandsFor (λ y x c _. call-leaves y x c) cs (λ _ _. tt) y x k;
 }
 
-pub events-same : (y : HostState) (x : State) (es : List Event) → StandsFor y x → Small (x .arena) → SameEvents y x es
-events-same y x es k small =
+pub events-same : (d : ℕ) (y : HostState) (x : State) (es : List Event) → StandsFor y x → Small (x .arena) → SameEvents d y x es
+events-same d y x es k small =
     let left =
-    runs-related hostAfterEvent (afterEvent alone) (λ _. Unit {0}) Beside (λ y x e _. event-kept y x e) es (λ _ _. tt) y x (k, small) in
+    runs-related (hostAfterEvent d) (afterEvent (alone d)) (λ _. Unit {0}) Beside (λ y x e _. event-kept d y x e) es (λ _ _. tt) y x (k, small) in
     record {
       replies =
-          says-alike hostAfterEvent (afterEvent alone) (λ _. Unit {0}) Beside (λ y x e _. event-kept y x e)
-          hostReplyEvent (replyEvent alone) (λ y x e _. event-replies y x e) es (λ _ _. tt) y x (k, small);
+          says-alike (hostAfterEvent d) (afterEvent (alone d)) (λ _. Unit {0}) Beside (λ y x e _. event-kept d y x e)
+          (hostReplyEvent d) (replyEvent (alone d)) (λ y x e _. event-replies d y x e) es (λ _ _. tt) y x (k, small);
       leaves = left .0;
       small = left .1;
     }

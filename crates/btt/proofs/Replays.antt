@@ -7,7 +7,7 @@ use native.Mathlib.Omega.{arith}
 use lib.ListN.{length, getD}
 use borrow.Author.Tests.{ne-eqb}
 use Rattle.words.specs.Bytes.{Small}
-use Rattle.layout.specs.Told.{alone}
+use Rattle.layout.specs.Told.{aloneNear}
 use Rattle.machine.specs.state.Answer.{numberOf}
 use Rattle.machine.specs.calls.Opening.{openOf}
 use Rattle.runlog.specs.Log.{Log}
@@ -54,13 +54,13 @@ put-past (n ∷ ns) (b ∷ bs) (suc i) u = put-past ns bs i (omega arith)
 
 -- ---- the claim
 
-pub nothing-ran : (a work log answers : List ℕ) → (openOf alone a work) .number ≢ 0
+pub nothing-ran : (a work log answers : List ℕ) → (openOf aloneNear a work) .number ≢ 0
     → claim.NothingRan a work answers (bttReplayOf a work log answers)
 unfolding bttReplayOf
 nothing-ran a work log answers n =
     let q = replay-claim .refused a work log n in
     record {
-      number = rw (q .first, ne-eqb ((openOf alone a work) .number) 0 n);
+      number = rw (q .first, ne-eqb ((openOf aloneNear a work) .number) 0 n);
       records = ap (λ (ns : List ℕ). length ns) (q .numbers);
       stopped = q .at;
       arena = q .arena;
@@ -68,7 +68,7 @@ nothing-ran a work log answers n =
       answers = rw (q .numbers) (put-nothing answers);
     }
 
-pub records-ran : (a work log answers : List ℕ) → Small a → Small work → Small log → (openOf alone a work) .number ≡ 0
+pub records-ran : (a work log answers : List ℕ) → Small a → Small work → Small log → (openOf aloneNear a work) .number ≡ 0
     → claim.RecordsRan a work log answers (bttReplayOf a work log answers)
 unfolding bttReplayOf
 records-ran a work log answers small small-work small-log e =

@@ -1,4 +1,4 @@
--- What a refused call leaves, how little of the handle's bytes an accepted one changes, what a wrong busy word does, and that what a host
+-- What a refused call leaves, how little of the handle's bytes an accepted one changes, what a wrong busy word and a wrong layout do, and that what a host
 -- is shown is so: the info block's place, a lane's record, and where the next step stores.
 use mathlib.Core.Path.{_≡_, refl, sym, ap, _∙_}
 use mathlib.Core.Logic.{_≢_, _⊎_, inl, inr, ⊎-elim}
@@ -123,8 +123,29 @@ module _ (a b : List ℕ) (l : ℕ) where
   unfolding bttNextStoreOf
   next-left offset z = rw (ne-eqb (nextNumber a (handleIn b) l) 0 z)
 
--- ---- a busy word other than 0 and 1
+-- ---- handles that rule 16 refuses
 
+module _ (a b : List ℕ) (not-allowed : handleAllowed (handleIn b) (length a) ≡ false) where
+  all-bad : AllBadHandle a b
+  unfolding bttReadOf bttOf bttLaneOf bttNextStoreOf readOf startOf stepOf writeOf
+  all-bad =
+      let e = ap not not-allowed in
+      record {
+        read = λ s buffer. sym (call-walk a (handleIn b) (read s buffer) (stop e));
+        start = λ k s. sym (call-walk a (handleIn b) (start k s) (stop e));
+        step = λ k buffer. sym (call-walk a (handleIn b) (step k buffer) (stop e));
+        write = λ k s buffer. sym (call-walk a (handleIn b) (write k s buffer) (stop e));
+        lane = λ k out. sym (lane-walk a (handleIn b) k (stop e));
+        next-store = λ k offset. sym (next-walk a (handleIn b) k (stop e));
+      }
+
+-- a layout other than 16 and 32
+pub layout-wrong : (a b : List ℕ) → byteWord b 60 ≢ 16 → byteWord b 60 ≢ 32 → AllBadHandle a b
+layout-wrong a b m n = all-bad a b (by-bool (handleAllowed (handleIn b) (length a)) _
+    (λ t. absurd (⊎-elim (λ e. m (sym (head-at b .layout) ∙ e)) (λ e. n (sym (head-at b .layout) ∙ e)) (handle-ok (handleIn b) (length a) t .distance)))
+    (λ t. t))
+
+-- a busy word other than 0 and 1
 module _ (a b : List ℕ) (l : ℕ) (u : l < 16) (m : l < byteWord b 56) (w : 2 ≤ byteWord b (64 + 28 * l)) where
   v : l < (decodeHandle b) .figures .lanes
   v = rw (head-at b .lanes) m
@@ -142,17 +163,7 @@ module _ (a b : List ℕ) (l : ℕ) (u : l < 16) (m : l < byteWord b 56) (w : 2 
       (λ t. t)
 
   pub busy-wrong : AllBadHandle a b
-  unfolding bttReadOf bttOf bttLaneOf bttNextStoreOf readOf startOf stepOf writeOf
-  busy-wrong =
-      let e = ap not not-allowed in
-      record {
-        read = λ s buffer. sym (call-walk a (handleIn b) (read s buffer) (stop e));
-        start = λ k s. sym (call-walk a (handleIn b) (start k s) (stop e));
-        step = λ k buffer. sym (call-walk a (handleIn b) (step k buffer) (stop e));
-        write = λ k s buffer. sym (call-walk a (handleIn b) (write k s buffer) (stop e));
-        lane = λ k out. sym (lane-walk a (handleIn b) k (stop e));
-        next-store = λ k offset. sym (next-walk a (handleIn b) k (stop e));
-      }
+  busy-wrong = all-bad a b not-allowed
 
 -- ---- what an accepted call changes of the handle's bytes
 

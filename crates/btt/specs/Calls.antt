@@ -41,9 +41,9 @@ pub record HostOpening : Type 0 where
   pub work : List ℕ
 
 -- a refused opening leaves the handle's bytes all zeroes
-unfoldable pub bttOpenOf : List ℕ → List ℕ → HostOpening
-bttOpenOf a work =
-    let o = openOf alone a work in
+unfoldable pub bttOpenOf : ℕ → List ℕ → List ℕ → HostOpening
+bttOpenOf d a work =
+    let o = openOf (alone d) a work in
     record {
       number = o .number;
       mended = o .mended;

@@ -83,9 +83,11 @@ pub record HostClaim : Type 0 where
   pub info-block : (a : List ℕ) → take ((bttInfoBlockOf a) .length) (drop ((bttInfoBlockOf a) .offset) a) ≡ infoBlockOf a
   pub info-place : (a : List ℕ) → Small a → InfoPlace a
   -- an accepted opening leaves bytes that hold the handle it gives, a refused one zeroes
-  pub opened : (a work : List ℕ) → Small a → (openOf alone a work) .number ≡ 0
-      → HoldsHandle ((bttOpenOf a work) .handle) ((openOf alone a work) .handle)
-  pub open-refused : (a work : List ℕ) → (openOf alone a work) .number ≢ 0 → (bttOpenOf a work) .handle ≡ replicate 512 0
+  pub opened : (d : ℕ) (a work : List ℕ) → Small a → (openOf (alone d) a work) .number ≡ 0
+      → HoldsHandle ((bttOpenOf d a work) .handle) ((openOf (alone d) a work) .handle)
+  pub open-refused : (d : ℕ) (a work : List ℕ) → (openOf (alone d) a work) .number ≢ 0 → (bttOpenOf d a work) .handle ≡ replicate 512 0
+  -- the layout that it was told stands at byte 60
+  pub layout : (d : ℕ) (a work : List ℕ) → Small a → (openOf (alone d) a work) .number ≡ 0 → byteWord ((bttOpenOf d a work) .handle) 60 ≡ d
   -- each call is the machine's
   pub read : (a b : List ℕ) (h : Handle) (s : ℕ) (buffer : List ℕ) → HoldsHandle b h → bttReadOf a b s buffer ≡ readOf a h s buffer
   pub start : (a b : List ℕ) (h : Handle) (l s : ℕ) → HoldsHandle b h → SameOutcome (bttStartOf a b l s) (startOf a h l s)
@@ -106,6 +108,8 @@ pub record HostClaim : Type 0 where
       → (bttNextStoreOf a b l offset) .offset ≡ offset
   -- a busy word of 2 or more in a record below the lanes is 16, whatever else the handle's bytes are
   pub busy : (a b : List ℕ) (l : ℕ) → l < 16 → l < byteWord b 56 → 2 ≤ byteWord b (64 + 28 * l) → AllBadHandle a b
+  -- a layout other than 16 and 32 is 16, whatever else they are
+  pub wrong-layout : (a b : List ℕ) → byteWord b 60 ≢ 16 → byteWord b 60 ≢ 32 → AllBadHandle a b
   -- of a handle's bytes a call on a lane changes that lane's record at most
   pub kept : (b : List ℕ) (l : ℕ) (o : Outcome) → OnlyAt (64 + 28 * l) 28 b ((bttOf b l o) .handle)
   -- a look at a lane: 16, 11; at where its next step stores: 16, 11, 14

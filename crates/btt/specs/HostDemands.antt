@@ -1,9 +1,9 @@
--- Demands 2 and 3 for lists that a host makes through the library alone.
+-- Demands 2 and 3 for lists that a host makes through the library (alone d).
 use mathlib.Core.Path.{_≡_}
 use mathlib.Core.List.{List, [], _++_}
 use Prim.Native.Nat.{ℕ, _≤_}
 use lib.ListN.{length}
-use Rattle.words.specs.Bytes.{Small}
+use Rattle.words.specs.Bytes.{Small, byteWord}
 use Rattle.layout.specs.Told.{alone}
 use Rattle.machine.specs.state.Stores.{Store, putAll}
 use Rattle.machine.specs.calls.Opening.{figuresIn, layoutIn, openOf}
@@ -16,39 +16,42 @@ use Rattle.btt.specs.HostList.{HostState, openedHost, hostRun, hostRepli
 
 -- ---- demand 2
 
--- what a host has after an opening and a list of calls and openings
-abbrev pub hostLeft : List ℕ → List ℕ → List Event → HostState
-hostLeft a work es = hostRunEvents (openedHost (bttOpenOf a work)) es
+-- what a host has after an opening in a layout and a list of calls and openings in the same
+abbrev pub hostLeft : ℕ → List ℕ → List ℕ → List Event → HostState
+hostLeft d a work es = hostRunEvents d (openedHost (bttOpenOf d a work)) es
 
 -- the answers, the buffers and every read after them are the plain row's, whose writes in flight keep what keep says
-pub record HostFollowsRow (keep : Keeping) (a work : List ℕ) (es : List Event) : Type 0 where
-  pub replies : hostReplyEvents (openedHost (bttOpenOf a work)) es ≡ rowReplies keep (figuresIn a) (firstRow (openedFrom alone a work)) es
-  pub reads : (s : ℕ) (buffer : List ℕ) → bttReadOf ((hostLeft a work es) .arena) ((hostLeft a work es) .handle) s buffer
-      ≡ rowRead (figuresIn a) (rowAfterAll keep (figuresIn a) (firstRow (openedFrom alone a work)) es) s buffer
+pub record HostFollowsRow (keep : Keeping) (d : ℕ) (a work : List ℕ) (es : List Event) : Type 0 where
+  pub replies : hostReplyEvents d (openedHost (bttOpenOf d a work)) es ≡ rowReplies keep (figuresIn a) (firstRow (openedFrom (alone d) a work)) es
+  pub reads : (s : ℕ) (buffer : List ℕ) → bttReadOf ((hostLeft d a work es) .arena) ((hostLeft d a work es) .handle) s buffer
+      ≡ rowRead (figuresIn a) (rowAfterAll keep (figuresIn a) (firstRow (openedFrom (alone d) a work)) es) s buffer
+  -- its handle has that layout at byte 60
+  pub layout : byteWord ((hostLeft d a work es) .handle) 60 ≡ d
 
 -- ---- demand 3
 
 -- after the calls p: the answers are the book's, and the arena is the first one with each write's first stores put in
-pub record HostBooked (y : HostState) (x : State) (bytes : ℕ → List ℕ) (p : List Call) : Type 0 where
-  pub answers : hostReplies y p ≡ bookReplies alone (x .arena) bytes [] p
-  pub arena : (stores : List Store) → SameMembers stores (kept alone (x .arena) bytes (bookAfter alone (x .arena) [] p))
-      → (hostRun y p) .arena ≡ putAll (layoutIn alone (x .arena)) stores (x .arena)
+pub record HostBooked (d : ℕ) (y : HostState) (x : State) (bytes : ℕ → List ℕ) (p : List Call) : Type 0 where
+  pub answers : hostReplies y p ≡ bookReplies (alone d) (x .arena) bytes [] p
+  pub arena : (stores : List Store) → SameMembers stores (kept (alone d) (x .arena) bytes (bookAfter (alone d) (x .arena) [] p))
+      → (hostRun y p) .arena ≡ putAll (layoutIn (alone d) (x .arena)) stores (x .arena)
 
 -- a host's list of calls, and the power cut anywhere in it, inside a whole write too
-pub record HostPromised (y : HostState) (x : State) (cs : List Call) (bytes : ℕ → List ℕ) : Type 0 where
-  pub booked : (p rest : List Call) → p ++ rest ≡ cs → HostBooked y x bytes p
-  pub cut-booked : (p rest : List Call) → p ++ rest ≡ takenApart (layoutIn alone (x .arena)) x cs → HostBooked y x bytes p
-  pub cut : (p rest : List Call) → p ++ rest ≡ takenApart (layoutIn alone (x .arena)) x cs → (work : List ℕ)
+pub record HostPromised (d : ℕ) (y : HostState) (x : State) (cs : List Call) (bytes : ℕ → List ℕ) : Type 0 where
+  pub booked : (p rest : List Call) → p ++ rest ≡ cs → HostBooked d y x bytes p
+  pub cut-booked : (p rest : List Call) → p ++ rest ≡ takenApart (layoutIn (alone d) (x .arena)) x cs → HostBooked d y x bytes p
+  pub cut : (p rest : List Call) → p ++ rest ≡ takenApart (layoutIn (alone d) (x .arena)) x cs → (work : List ℕ)
       → (figuresIn (x .arena)) .blocks ≤ length work
-      → AfterCut alone (x .arena) (x .handle) bytes ((hostRun y p) .arena) (bookAfter alone (x .arena) [] p) work
+      → AfterCut (alone d) (x .arena) (x .handle) bytes ((hostRun y p) .arena) (bookAfter (alone d) (x .arena) [] p) work
 
+-- in any layout: it is the handle's, and that of every opening in the list and after a cut
 pub record HostDemands : Type 0 where
   -- any arena that opens, any list and any buffers: the write in flight holds the words stored so far, each from the buffer of its own step
-  pub two-words : (a work : List ℕ) (es : List Event) → Small a → SmallEvents es → (openOf alone a work) .number ≡ 0
-      → HostFollowsRow wordByWord a work es
+  pub two-words : (d : ℕ) (a work : List ℕ) (es : List Event) → Small a → SmallEvents es → (openOf (alone d) a work) .number ≡ 0
+      → HostFollowsRow wordByWord d a work es
   -- any arena that opens, and any list in which each write is handed the same bytes throughout
-  pub two : (a work : List ℕ) (es : List Event) → Small a → SmallEvents es → (openOf alone a work) .number ≡ 0
-      → OneBuffer (figuresIn a) (firstRow (openedFrom alone a work)) es → HostFollowsRow lastBuffer a work es
+  pub two : (d : ℕ) (a work : List ℕ) (es : List Event) → Small a → SmallEvents es → (openOf (alone d) a work) .number ≡ 0
+      → OneBuffer (figuresIn a) (firstRow (openedFrom (alone d) a work)) es → HostFollowsRow lastBuffer d a work es
   -- a host whose bytes hold the handle of such an arena, all lanes idle, and a list as demand 3 has it
-  pub three : (y : HostState) (x : State) (cs : List Call) (bytes : ℕ → List ℕ) → StandsFor y x → Listed alone x cs bytes
-      → HostPromised y x cs bytes
+  pub three : (d : ℕ) (y : HostState) (x : State) (cs : List Call) (bytes : ℕ → List ℕ) → StandsFor y x → Listed (alone d) x cs bytes
+      → HostPromised d y x cs bytes

@@ -65,22 +65,24 @@ hostReplies y cs = says hostAfter hostReply y cs
 
 -- ---- with openings between
 
--- a host lends an opening 512 bytes apart from its latest handle's; they are the latest from then on if the opening is accepted
-abbrev pub hostAfterEvent : HostState → Event → HostState
-hostAfterEvent y (called c) = hostAfter y c
-hostAfterEvent y (opened work) =
-    let o = bttOpenOf (y .arena) work in
-    record { arena = o .arena; handle = cond (eqb (o .number) 0) (o .handle) (y .handle) }
+-- a host tells every opening the same layout, and lends it 512 bytes apart from its latest handle's; they are the latest from then on if the
+-- opening is accepted
+module _ (d : ℕ) where
+  abbrev pub hostAfterEvent : HostState → Event → HostState
+  hostAfterEvent y (called c) = hostAfter y c
+  hostAfterEvent y (opened work) =
+      let o = bttOpenOf d (y .arena) work in
+      record { arena = o .arena; handle = cond (eqb (o .number) 0) (o .handle) (y .handle) }
 
-abbrev pub hostReplyEvent : HostState → Event → Reply
-hostReplyEvent y (called c) = hostReply y c
-hostReplyEvent y (opened work) = let o = bttOpenOf (y .arena) work in record { number = o .number; buffer = o .work; mended = o .mended }
+  abbrev pub hostReplyEvent : HostState → Event → Reply
+  hostReplyEvent y (called c) = hostReply y c
+  hostReplyEvent y (opened work) = let o = bttOpenOf d (y .arena) work in record { number = o .number; buffer = o .work; mended = o .mended }
 
-abbrev pub hostRunEvents : HostState → List Event → HostState
-hostRunEvents y es = runs hostAfterEvent y es
+  abbrev pub hostRunEvents : HostState → List Event → HostState
+  hostRunEvents y es = runs hostAfterEvent y es
 
-abbrev pub hostReplyEvents : HostState → List Event → List Reply
-hostReplyEvents y es = says hostAfterEvent hostReplyEvent y es
+  abbrev pub hostReplyEvents : HostState → List Event → List Reply
+  hostReplyEvents y es = says hostAfterEvent hostReplyEvent y es
 
 -- ---- the claim
 
@@ -95,16 +97,16 @@ pub record SameCalls (y : HostState) (x : State) (cs : List Call) : Type 0 where
   pub leaves : StandsFor (hostRun y cs) (run x cs)
 
 -- with openings between: the arena that is left is bytes still, so that another such list may follow
-pub record SameEvents (y : HostState) (x : State) (es : List Event) : Type 0 where
-  pub replies : hostReplyEvents y es ≡ replyEvents alone x es
-  pub leaves : StandsFor (hostRunEvents y es) (runEvents alone x es)
-  pub small : Small ((runEvents alone x es) .arena)
+pub record SameEvents (d : ℕ) (y : HostState) (x : State) (es : List Event) : Type 0 where
+  pub replies : hostReplyEvents d y es ≡ replyEvents (alone d) x es
+  pub leaves : StandsFor (hostRunEvents d y es) (runEvents (alone d) x es)
+  pub small : Small ((runEvents (alone d) x es) .arena)
 
 pub record HostListClaim : Type 0 where
   -- any calls with any numbers and buffers, on any arena and any handle that the host's bytes hold
   pub calls : (y : HostState) (x : State) (cs : List Call) → StandsFor y x → SameCalls y x cs
-  -- any calls and openings, on an arena of bytes
-  pub events : (y : HostState) (x : State) (es : List Event) → StandsFor y x → Small (x .arena) → SameEvents y x es
+  -- any calls and openings in any layout, on an arena of bytes
+  pub events : (d : ℕ) (y : HostState) (x : State) (es : List Event) → StandsFor y x → Small (x .arena) → SameEvents d y x es
   -- a host that begins with an accepted opening has what the machine has
-  pub first : (a work : List ℕ) → Small a → (openOf alone a work) .number ≡ 0
-      → StandsFor (openedHost (bttOpenOf a work)) (openedFrom alone a work)
+  pub first : (d : ℕ) (a work : List ℕ) → Small a → (openOf (alone d) a work) .number ≡ 0
+      → StandsFor (openedHost (bttOpenOf d a work)) (openedFrom (alone d) a work)

@@ -6,7 +6,7 @@ use mathlib.Core.List.{List}
 use Prim.Native.Nat.{ℕ, _≤_, _<_}
 use lib.ListN.{length, getD}
 use Rattle.words.specs.Bytes.{Small}
-use Rattle.layout.specs.Told.{alone}
+use Rattle.layout.specs.Told.{aloneNear}
 use Rattle.machine.specs.calls.Opening.{openOf}
 use Rattle.runlog.specs.Log.{logOf}
 use Rattle.replaying.specs.Claims.{last, replies}
@@ -14,11 +14,11 @@ use Rattle.btt.specs.Replay.{HostReplay, bttReplayOf}
 
 -- the first opening is refused: no record runs, and the work buffer is as the opening leaves it
 pub record NothingRan (a room buffer : List ℕ) (r : HostReplay) : Type 0 where
-  pub number : r .number ≡ (openOf alone a room) .number
+  pub number : r .number ≡ (openOf aloneNear a room) .number
   pub records : r .records ≡ 0
   pub stopped : r .stopped ≡ 0
   pub arena : r .arena ≡ a
-  pub work : r .work ≡ (openOf alone a room) .work
+  pub work : r .work ≡ (openOf aloneNear a room) .work
   pub answers : r .answers ≡ buffer
 
 -- the first opening is accepted
@@ -35,11 +35,11 @@ pub record RecordsRan (a room log buffer : List ℕ) (r : HostReplay) : Type 0 w
   pub unused : (i : ℕ) → r .records ≤ i → getD (r .answers) i 0 ≡ getD buffer i 0
   -- the arena is the history's, the work buffer the first opening's
   pub arena : r .arena ≡ (last a room log) .arena
-  pub work : r .work ≡ (openOf alone a room) .work
+  pub work : r .work ≡ (openOf aloneNear a room) .work
 
 -- for any bytes lent
 pub record HostReplayClaim : Type 0 where
-  pub refused : (a work log answers : List ℕ) → (openOf alone a work) .number ≢ 0
+  pub refused : (a work log answers : List ℕ) → (openOf aloneNear a work) .number ≢ 0
       → NothingRan a work answers (bttReplayOf a work log answers)
-  pub accepted : (a work log answers : List ℕ) → Small a → Small work → Small log → (openOf alone a work) .number ≡ 0
+  pub accepted : (a work log answers : List ℕ) → Small a → Small work → Small log → (openOf aloneNear a work) .number ≡ 0
       → RecordsRan a work log answers (bttReplayOf a work log answers)

@@ -2,7 +2,6 @@
 use format::numbers::LaneNo;
 use infoblock::Counts;
 use judge::info::info_part;
-use layout::alone;
 use machine::answer::Answer;
 use machine::handle::Handle;
 use machine::handle::handle_allowed;
@@ -80,6 +79,6 @@ pub fn next_offset(arena: &[u8], h: Handle, lane: LaneNo) -> u64
 {
     let i = lane.0 as usize;
     let r = h.lanes[i];
-    let place = store_place(h.figures, alone().distance, lane, r, r.made);
+    let place = store_place(h.figures, h.distance, lane, r, r.made);
     4 * place as u64
 }

@@ -65,18 +65,19 @@ pub extern "C" fn btt_info_block(arena: &[u8], offset: &mut u64, length: &mut u6
     *length = place.length;
 }
 
-// Opens an arena: the handle's bytes, all zeroes on a refusal, and how many lanes were pending.
+// Opens an arena in a layout: the handle's bytes, all zeroes on a refusal, and how many lanes were pending.
 #[no_mangle]
 pub extern "C" fn btt_open(
     arena: &mut [u8],
     work: &mut [u8],
+    layout: u32,
     handle: &mut [u8; 512],
     mended: &mut u32,
 ) -> u32
     ensures { λ r. ⌜ gave.opened r (now (mended .exit)) (now (arena .exit)) (now (handle .exit)) (now (work .exit))
-        ≡ bttOpenOf (now (arena .entry)) (now (work .entry)) ⌝ }
+        ≡ bttOpenOf layout (now (arena .entry)) (now (work .entry)) ⌝ }
 {
-    let opened = open(arena, work);
+    let opened = open(arena, work, layout);
     let answer = opened.answer;
     *mended = opened.mended;
     *handle = [0u8; 512];
@@ -87,13 +88,19 @@ pub extern "C" fn btt_open(
     answer.number()
 }
 
-// A cut opening: told k, it is refused as opening is, and else makes the first k of opening's stores; it gives no handle.
+// A cut opening in a layout: told k, it is refused as opening is, and else makes the first k of opening's stores; it gives no handle.
 #[no_mangle]
-pub extern "C" fn btt_cut_open(arena: &mut [u8], work: &mut [u8], k: u32, mended: &mut u32) -> u32
+pub extern "C" fn btt_cut_open(
+    arena: &mut [u8],
+    work: &mut [u8],
+    layout: u32,
+    k: u32,
+    mended: &mut u32,
+) -> u32
     ensures { λ r. ⌜ gave.cut r (now (mended .exit)) (now (arena .exit)) (now (work .exit))
-        ≡ cutOpenOf alone (now (arena .entry)) (now (work .entry)) k ⌝ }
+        ≡ cutOpenOf (alone layout) (now (arena .entry)) (now (work .entry)) k ⌝ }
 {
-    let opened = cut_open(arena, work, k);
+    let opened = cut_open(arena, work, layout, k);
     *mended = opened.mended;
     let answer = opened.answer;
     answer.number()

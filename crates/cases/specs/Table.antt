@@ -1,16 +1,19 @@
--- The worked figures of document 01 that are marked to be proved, cases 1 to 8, as one table of values computed and values due.
+-- The worked figures of document 01 that are marked to be proved, cases 1 to 8, as one table of values computed and values due; beside them
+-- the bytes of case 9 and of its twin in the other layout.
 use mathlib.Core.Bool.{cond}
 use mathlib.Core.List.{List, [], _∷_, _++_}
-use Prim.Native.Nat.{ℕ, _+_}
+use Prim.Native.Nat.{ℕ, _+_, _-_, _*_}
 use lib.ListN.{replicate}
 use Rattle.fletcher.specs.Fletcher.{fletcher64}
 use Rattle.format.specs.Sequence.{successor, newer}
 use Rattle.format.specs.MapWord.{flagsOf, readingOf, blockOf, sloppyWord}
 use Rattle.layout.specs.Figures.{freshFigures, freshLength}
+use Rattle.layout.specs.Place.{layoutOf, at}
 use Rattle.layout.specs.Told.{alone}
 use Rattle.machine.specs.calls.Opening.{openOf}
 use Rattle.machine.specs.calls.Reading.{readOf}
-use Rattle.machine.specs.calls.Writing.{startOf, writeOf}
+use Rattle.machine.specs.calls.Writing.{planOf, storeAt, startOf, writeOf}
+use Rattle.machine.specs.declared.lane.Lane.{Lane}
 use Rattle.machine.specs.claims.Exhibit.{exhibitWork, exhibitState, exhibitSloppy}
 use Rattle.cases.specs.Worked.{Worked, _is_}
 use Rattle.cases.specs.Pending.{case6, case7, case8}
@@ -25,12 +28,12 @@ case2 =
     (newer 1 0 is 0) ∷ (newer 0 1 is 1) ∷ (newer 3 1 is 1) ∷ (newer 1 3 is 0) ∷ (newer 2 3 is 1)
     ∷ (newer 0 0 is 2) ∷ (newer 2 2 is 2) ∷ (newer 4 1 is 2) ∷ (newer 0 4 is 2) ∷ []
 
--- case 3: at sector 7 of the arena of case 5, 0x00000005 is refused with 18 by an opening and by a read, a start and a whole write
-abbrev pub case3-refused : List Worked
-case3-refused =
-    ((openOf alone exhibitSloppy exhibitWork) .number is 18) ∷ ((readOf exhibitSloppy (exhibitState .handle) 7 (replicate 512 0)) .number is 18)
-    ∷ ((startOf exhibitSloppy (exhibitState .handle) 0 7) .number is 18)
-    ∷ ((writeOf exhibitSloppy (exhibitState .handle) 0 7 (replicate 512 0)) .number is 18) ∷ []
+-- case 3: at sector 7 of the arena of case 5, 0x00000005 is refused with 18 by an opening and by a read, a start and a whole write, in a layout
+abbrev pub case3-refused : ℕ → List Worked
+case3-refused d =
+    ((openOf (alone d) exhibitSloppy exhibitWork) .number is 18) ∷ ((readOf exhibitSloppy (exhibitState d .handle) 7 (replicate 512 0)) .number is 18)
+    ∷ ((startOf exhibitSloppy (exhibitState d .handle) 0 7) .number is 18)
+    ∷ ((writeOf exhibitSloppy (exhibitState d .handle) 0 7 (replicate 512 0)) .number is 18) ∷ []
 
 -- the other words of case 3, at sector 7: the block and the reading, 0 zeroes, 1 bad, 2 data
 abbrev pub case3 : List Worked
@@ -72,7 +75,29 @@ case5 =
     ((freshFigures 512 60 4) .mapoff is 36864) ∷ ((freshFigures 512 60 4) .flogoff is 40960) ∷ ((freshFigures 512 60 4) .copyoff is 45056)
     ∷ (freshLength 512 60 4 is 49152) ∷ (freshLength 512 1 1 is 20480) ∷ (freshLength 4096 1 1 is 24576) ∷ []
 
+-- case 9's write: to sector 7 on lane 0 of the arena of case 5, into its second half
+abbrev pub written : Lane
+written = record {
+  busy = 1;
+  block = record { 0 = 60 };
+  half = 1;
+  sequence = record { 0 = 2 };
+  sector = record { 0 = 7 };
+  old = record { 0 = 7 };
+  made = 0;
+}
+
+-- the byte of its store k, counted from 1, by the places of the machine
+abbrev pub storedAt : ℕ → ℕ → ℕ
+storedAt d k = let g = layoutOf d (freshFigures 512 60 4) in 4 * at g (storeAt g (planOf 0 written) [] (k - 1) .place)
+
+-- beside case 9: where its stores go in a layout, of which the first into the half is at byte o
+abbrev pub case9-bytes : ℕ → ℕ → List Worked
+case9-bytes d o =
+    (storedAt d 1 is 34816) ∷ (storedAt d 128 is 35324) ∷ (storedAt d 129 is o) ∷ (storedAt d 130 is o + 4) ∷ (storedAt d 131 is o + 8)
+    ∷ (storedAt d 132 is o + 12) ∷ (storedAt d 133 is 36892) ∷ []
+
 unfoldable pub table : List Worked
 table =
-    case1 ++ (case2 ++ (case3 ++ (case3-bits ++ (case4 ++ (case4-turns ++ (case5
-    ++ (case3-refused ++ (case6 1 ++ (case6 0 ++ (case7 1 ++ (case7 0 ++ case8)))))))))))
+    case1 ++ (case2 ++ (case3 ++ (case3-bits ++ (case4 ++ (case4-turns ++ (case5 ++ (case9-bytes 16 40976 ++ (case9-bytes 32 40992
+    ++ (case3-refused 16 ++ (case3-refused 32 ++ (case6 1 ++ (case6 0 ++ (case7 1 ++ (case7 0 ++ case8))))))))))))))

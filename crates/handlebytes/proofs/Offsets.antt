@@ -1,18 +1,14 @@
 -- The numbers of a handle by byte offset: the definitions by word number taken to bytes.
-use mathlib.Core.Path.{_≡_, refl, sym, _∙_}
+use mathlib.Core.Path.{_≡_, refl}
 use mathlib.Core.List.{List}
 use Prim.Native.Nat.{ℕ, _+_, _*_, _<_}
 use native.Mathlib.Omega.{arith}
-use Rattle.words.specs.Bytes.{byteWord}
 use Rattle.words.proofs.Bytes.{word-at, long-at}
 use Rattle.layout.specs.Figures.{figuresAt}
 use Rattle.machine.specs.state.Handle.{laneAt}
-use Rattle.machine.specs.declared.handle.Handle.{Handle}
-use Rattle.handlebytes.specs.Bytes.{recordAt, decodeRecord, decodeHandle, encodeHandle}
-use Rattle.handlebytes.specs.Stands.{HandleFits}
+use Rattle.handlebytes.specs.Bytes.{recordAt, decodeRecord, decodeHandle}
 use Rattle.handlebytes.specs.Claims.{HeadAt, RecordFrom}
 use Rattle.handlebytes.proofs.Round.{lane-at}
-use Rattle.handlebytes.proofs.Whole.{reserved-word}
 
 pub head-at : (b : List ℕ) → HeadAt b (decodeHandle b)
 unfolding decodeHandle figuresAt
@@ -28,6 +24,7 @@ head-at b =
       internal = word-at b 12 48 refl;
       blocks = word-at b 13 52 refl;
       lanes = word-at b 14 56 refl;
+      layout = word-at b 15 60 refl;
     }
 
 -- a record decoded from word i on
@@ -47,6 +44,3 @@ record-from b i o e =
 pub lane-from : (b : List ℕ) (l : ℕ) → l < 16 → RecordFrom b (64 + 28 * l) (laneAt ((decodeHandle b) .lanes) l)
 unfolding decodeHandle
 lane-from b l u = rw (lane-at b 16 l u) (record-from b (recordAt l) (64 + 28 * l) (omega arith))
-
-pub reserved-at : (h : Handle) → HandleFits h → byteWord (encodeHandle h) 60 ≡ 0
-reserved-at h f = sym (word-at (encodeHandle h) 15 60 refl) ∙ reserved-word h f

@@ -89,9 +89,9 @@ stored-more b lanes l =
     snoc = unfold recordsWords in refl
 
 -- the words of a handle in three runs
-pub three-runs : (b : List ℕ) (n : ℕ) (f : Figures) (ws : List ℕ)
-    → putWords (putWords (putWords b 0 (startWords n f)) 10 (figureWords f)) 16 ws ≡ putWords b 0 ((startWords n f ++ figureWords f) ++ ws)
+pub three-runs : (b : List ℕ) (n : ℕ) (f : Figures) (d : ℕ) (ws : List ℕ)
+    → putWords (putWords (putWords b 0 (startWords n f)) 10 (figureWords f d)) 16 ws ≡ putWords b 0 ((startWords n f ++ figureWords f d) ++ ws)
 unfolding startWords figureWords
-three-runs b n f ws =
-    sym (putWords-append (startWords n f ++ figureWords f) ws b 0
-    ∙ ap (λ (x : List ℕ). putWords x 16 ws) (putWords-append (startWords n f) (figureWords f) b 0))
+three-runs b n f d ws =
+    sym (putWords-append (startWords n f ++ figureWords f d) ws b 0
+    ∙ ap (λ (x : List ℕ). putWords x 16 ws) (putWords-append (startWords n f) (figureWords f d) b 0))

@@ -113,6 +113,9 @@ module _ (b b′ : List ℕ) (same : (k : ℕ) → k < 16 → word b′ k ≡ wo
   unfolding long
   total-same = rw (same 0 (omega arith), same 1 (omega arith))
 
+  distance-same : word b′ 15 ≡ word b 15
+  distance-same = same 15 (omega arith)
+
   figures-same : decodeFigures b′ ≡ decodeFigures b
   unfolding figuresAt long
   figures-same =
@@ -141,6 +144,7 @@ pub fits-back : (b : List ℕ) (h : Handle) → Stands b h → HandleFits h
 unfolding decodeHandle figuresAt decodeRecord long
 fits-back b h s = rw (← s .is) (record {
   total = joint 0;
+  distance = one 15;
   figures = record {
     size = one 10;
     sectors = one 11;
@@ -201,6 +205,7 @@ module _ (b : List ℕ) (h : Handle) (l : ℕ) (r : Lane) (s : Stands b h) (u : 
     is =
         rw (
           total-same b after kept-head,
+          distance-same b after kept-head,
           figures-same b after kept-head,
           decoded-is after 16 (set (decodeRecords b 16) l r) (rw (length-set, decode-length)) after-at,
         )

@@ -43,7 +43,7 @@ use Rattle.handlebytes.proofs.Round.{
 
 module _ (h : Handle) (f : HandleFits h) where
   words : List ℕ
-  words = startWords (h .length) (h .figures) ++ figureWords (h .figures)
+  words = startWords (h .length) (h .figures) ++ figureWords (h .figures) (h .distance)
 
   words-below : Below limit words
   unfolding words startWords figureWords
@@ -69,7 +69,7 @@ module _ (h : Handle) (f : HandleFits h) where
                         omega arith,
                         (
                           omega (arith, g .copy-start),
-                          (g .size, (g .sectors, (g .internal, (g .blocks, (g .lanes, (omega arith, tt)))))),
+                          (g .size, (g .sectors, (g .internal, (g .blocks, (g .lanes, (f .distance, tt)))))),
                         ),
                       ),
                     ),
@@ -128,9 +128,9 @@ module _ (h : Handle) (f : HandleFits h) where
   unfolding filled
   filled-head k u = word-putWords-out (recordsWords (h .lanes) 16) head 16 k (inl u) ∙ head-word k u
 
-  pub reserved-word : word (encodeHandle h) 15 ≡ 0
+  filled-distance : word (filled 16) 15 ≡ h .distance
   unfolding words startWords figureWords
-  reserved-word = rw encode-filled (filled-head 15 (omega arith))
+  filled-distance = filled-head 15 (omega arith)
 
   filled-long : (i n : ℕ) → i + 1 < 16 → getD words i 0 ≡ n % limit → getD words (i + 1) 0 ≡ n / limit → long (filled 16) i ≡ n
   unfolding long
@@ -168,7 +168,7 @@ module _ (h : Handle) (f : HandleFits h) where
     size = filled-length 16;
     small = filled-small;
     is =
-        rw (filled-total, filled-figures, decoded-is (filled 16) 16 (h .lanes) (f .records) (filled-at 16 (omega arith)));
+        rw (filled-total, filled-distance, filled-figures, decoded-is (filled 16) 16 (h .lanes) (f .records) (filled-at 16 (omega arith)));
   })
 
 pub zeroes-stand : Stands (replicate 512 0) zeroHandle

@@ -1,5 +1,5 @@
 -- A handle as a host holds it: 512 bytes, here by word number. Slice length 0, starts of data, map, flog and copy 2, 4, 6 and 8,
--- S 10, E 11, internal size 12, blocks 13, lanes 14, reserved 15, and from 16 on seven words for each of the 16 records.
+-- S 10, E 11, internal size 12, blocks 13, lanes 14, the layout 15, and from 16 on seven words for each of the 16 records.
 use mathlib.Core.List.{List, [], _∷_, _++_}
 use Prim.Native.Nat.{ℕ, zero, suc, _+_, _*_}
 use lib.ListN.{replicate}
@@ -47,18 +47,18 @@ abbrev pub decodeFigures : List ℕ → Figures
 decodeFigures b = figuresAt b 10 2
 
 unfoldable pub decodeHandle : List ℕ → Handle
-decodeHandle b = record { length = long b 0; figures = decodeFigures b; lanes = decodeRecords b maxLanes }
+decodeHandle b = record { length = long b 0; distance = word b 15; figures = decodeFigures b; lanes = decodeRecords b maxLanes }
 
 -- the words of a record
 unfoldable pub recordWords : Lane → List ℕ
 recordWords r = r .busy ∷ r .block .0 ∷ r .half ∷ r .sequence .0 ∷ r .sector .0 ∷ r .old .0 ∷ r .made ∷ []
 
--- the words before the records: the length and the four starts, then the other figures; the reserved word is 0
+-- the words before the records: the length and the four starts, then the other figures and the layout
 unfoldable pub startWords : ℕ → Figures → List ℕ
 startWords total f = split total (split (f .dataoff) (split (f .mapoff) (split (f .flogoff) (split (f .copyoff) []))))
 
-unfoldable pub figureWords : Figures → List ℕ
-figureWords f = f .size ∷ f .sectors ∷ f .internal ∷ f .blocks ∷ f .lanes ∷ 0 ∷ []
+unfoldable pub figureWords : Figures → ℕ → List ℕ
+figureWords f d = f .size ∷ f .sectors ∷ f .internal ∷ f .blocks ∷ f .lanes ∷ d ∷ []
 
 -- the words of the first n records
 unfoldable pub recordsWords : List Lane → ℕ → List ℕ
@@ -66,7 +66,7 @@ recordsWords lanes zero = []
 recordsWords lanes (suc l) = recordsWords lanes l ++ recordWords (laneAt lanes l)
 
 unfoldable pub handleWords : Handle → List ℕ
-handleWords h = (startWords (h .length) (h .figures) ++ figureWords (h .figures)) ++ recordsWords (h .lanes) maxLanes
+handleWords h = (startWords (h .length) (h .figures) ++ figureWords (h .figures) (h .distance)) ++ recordsWords (h .lanes) maxLanes
 
 -- bytes with a record stored from word i on
 abbrev pub putRecord : List ℕ → ℕ → Lane → List ℕ

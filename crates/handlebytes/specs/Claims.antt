@@ -23,6 +23,7 @@ pub record HeadAt (b : List ℕ) (h : Handle) : Type 0 where
   pub internal : h .figures .internal ≡ byteWord b 48
   pub blocks : h .figures .blocks ≡ byteWord b 52
   pub lanes : h .figures .lanes ≡ byteWord b 56
+  pub layout : h .distance ≡ byteWord b 60
 
 -- a record whose first byte is byte o
 pub record RecordFrom (b : List ℕ) (o : ℕ) (r : Lane) : Type 0 where
@@ -38,8 +39,6 @@ pub record BytesClaim : Type 0 where
   -- every number of a handle by its byte; lane l's record has 28 bytes from byte 64 + 28 l on
   pub head : (b : List ℕ) → HeadAt b (decodeHandle b)
   pub lane : (b : List ℕ) (l : ℕ) → l < 16 → RecordFrom b (64 + 28 * l) (laneAt ((decodeHandle b) .lanes) l)
-  -- the word between them is reserved, and 0 in what an opening leaves
-  pub reserved : (h : Handle) → HandleFits h → byteWord (encodeHandle h) 60 ≡ 0
   -- a handle's bytes stand for it
   pub encoded : (h : Handle) → HandleFits h → Stands (encodeHandle h) h
   -- so do those that a refused opening leaves

@@ -29,11 +29,12 @@ pub record RecordFits (r : Lane) : Type 0 where
 
 -- the handle with record l replaced
 abbrev pub withRecord : Handle → ℕ → Lane → Handle
-withRecord h l r = record { length = h .length; figures = h .figures; lanes = set (h .lanes) l r }
+withRecord h l r = record { length = h .length; distance = h .distance; figures = h .figures; lanes = set (h .lanes) l r }
 
 -- what the type of a handle gives of its numbers
 pub record HandleFits (h : Handle) : Type 0 where
   pub total : Fits64 (h .length)
+  pub distance : Fits32 (h .distance)
   pub figures : FiguresFit (h .figures)
   pub records : length (h .lanes) ≡ maxLanes
   pub lanes : (l : ℕ) → l < maxLanes → RecordFits (laneAt (h .lanes) l)

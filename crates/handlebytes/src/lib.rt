@@ -56,6 +56,7 @@ pub fn handle_in(b: &[u8; 512]) -> Handle
     let figures = figures_at(b, 10, 2);
     Handle {
         length: long_at(b, 0),
+        distance: word_at(b, 15),
         figures: figures,
         lanes: lanes,
     }
@@ -87,17 +88,17 @@ fn put_starts(b: &mut [u8], total: u64, f: Figures)
     put_long(b, 8, f.copyoff);
 }
 
-// Stores the other figures and the reserved word.
-fn put_figures(b: &mut [u8], f: Figures)
+// Stores the other figures and the layout.
+fn put_figures(b: &mut [u8], f: Figures, distance: u32)
     requires { ⌜ 512 ≤ length (now b) ⌝ }
-    ensures { λ _. ⌜ now (b .exit) ≡ putWords (now (b .entry)) 10 (figureWords f) ⌝ }
+    ensures { λ _. ⌜ now (b .exit) ≡ putWords (now (b .entry)) 10 (figureWords f distance) ⌝ }
 {
     put_word(b, 10, f.size);
     put_word(b, 11, f.sectors);
     put_word(b, 12, f.internal);
     put_word(b, 13, f.blocks);
     put_word(b, 14, f.lanes);
-    put_word(b, 15, 0);
+    put_word(b, 15, distance);
 }
 
 // Stores a handle.
@@ -105,7 +106,7 @@ pub fn put_handle(b: &mut [u8; 512], h: Handle)
     ensures { λ _. ⌜ now (b .exit) ≡ putWords (now (b .entry)) 0 (handleWords h) ⌝ }
 {
     put_starts(b, h.length, h.figures);
-    put_figures(b, h.figures);
+    put_figures(b, h.figures, h.distance);
     let mut l: usize = 0;
     while l < RECORDS {
         let r = h.lanes[l];

@@ -1,4 +1,4 @@
--- Opening's order in the parts in which it is judged: rules 1 to 4, 5, and 6, 7, 18 and 8; and what each part leaves of the number, the figures
+-- Opening's order in the parts in which it is judged: rules 16 and 1 to 4, 5, and 6, 7, 18 and 8; and what each part leaves of the number, the figures
 -- and the work buffer.
 use mathlib.Core.Path.{_≡_, refl, sym, _∙_}
 use mathlib.Core.Logic.{inl, inr}
@@ -18,7 +18,7 @@ use Rattle.layout.specs.declared.Told.{Told}
 use Rattle.layout.proofs.Allowed.{fit-of}
 use Rattle.infoblock.proofs.InfoBlock.{length-of}
 use Rattle.machine.specs.Rules.{answer}
-use Rattle.machine.specs.state.Handle.{noFigures, ToldOk}
+use Rattle.machine.specs.state.Handle.{noFigures}
 use Rattle.machine.specs.calls.Opening.{
   OpenRule,
   shortWork,
@@ -39,18 +39,18 @@ use Rattle.machine.specs.calls.Opening.{
   unsettled,
 }
 use Rattle.machine.proofs.rules.Rules.{walked, stop, pass, through, passed-all, answer-append}
-use Rattle.machine.proofs.opening.Described.{Described, described-figures, told-distance}
+use Rattle.machine.proofs.opening.Described.{Described, described-distance, described-figures}
 use Rattle.machine.proofs.opening.Opens.{some-number-open, lanes-pass}
 use Rattle.machine.proofs.opening.Spare.{rule8}
 use Rattle.lanes.proofs.Lanes.{fit-arena}
 use Rattle.once.specs.Once.{cleared, blocksOnce}
 use Rattle.judge.specs.Judge.{judgedFigures, wordsNumber}
 
--- an arena that passes rules 1 to 4 fits its figures
-pub described-fit : (t : Told) → ToldOk t → (a : List ℕ) → Described t a → Fit (t .distance) (figuresIn a) (length a)
-described-fit t told a d =
+-- an arena that passes these fits its figures
+pub described-fit : (t : Told) (a : List ℕ) → Described t a → Fit (t .distance) (figuresIn a) (length a)
+described-fit t a d =
     let n = length-of (length a) (d .size) in
-    fit-of (t .distance) (told-distance (t .distance) told) (figuresIn a) (length a) (described-figures t told a d) (n .0) (n .2)
+    fit-of (t .distance) (described-distance t a d) (figuresIn a) (length a) (described-figures t a d) (n .0) (n .2)
 
 -- rule 8 as the counts decide it
 pub once-or-not : (d : ℕ) (f : Figures) (a : List ℕ) → Fit d f (length a) → Small a → lanesLost (layoutOf d f) a ≡ false
@@ -108,7 +108,13 @@ module _ (t : Told) (a : List ℕ) (room : ℕ) where
   info-passed : answered infoRules ≡ 0 → Described t a
   info-passed e =
       let p = passed-all numberOpen some-number-open (testsOpen t a room) infoRules e in
-      record { size = not-false _ (p .0); block = p .1 .0; allowed = not-false _ (p .1 .1 .0); flags = not-false _ (p .1 .1 .1 .0) }
+      record {
+        layout = not-false _ (p .0);
+        size = not-false _ (p .1 .0);
+        block = p .1 .1 .0;
+        allowed = not-false _ (p .1 .1 .1 .0);
+        flags = not-false _ (p .1 .1 .1 .1 .0);
+      }
 
   alone-answer : answered aloneRules ≡ cond (eqb (answered infoRules) 0) (answered (shortWork ∷ [])) (answered infoRules)
   alone-answer = answer-append numberOpen some-number-open (testsOpen t a room) infoRules (shortWork ∷ [])
@@ -134,7 +140,7 @@ module _ (t : Told) (a work : List ℕ) (n : ℕ) where
   pub info-refuses : n ≡ answered t a (length work) infoRules → eqb n 0 ≡ false → Ends t a work n noFigures work
   info-refuses e z = alone-refuses (e ∙ sym (alone-answer t a (length work) ∙ rw (← e, z))) z
 
--- rules 1 to 4 let pass
+-- rules 16 and 1 to 4 let pass
 module _ (t : Told) (a work : List ℕ) (n : ℕ) (f : Figures) (e : n ≡ answered t a (length work) infoRules) (z : eqb n 0 ≡ true)
     (fe : f ≡ judgedFigures n a) where
   passed : answered t a (length work) infoRules ≡ 0
@@ -143,8 +149,8 @@ module _ (t : Told) (a work : List ℕ) (n : ℕ) (f : Figures) (e : n ≡ answe
   pub figures-are : f ≡ figuresIn a
   figures-are = fe ∙ rw z
 
-  pub figures-fit : ToldOk t → Fit (t .distance) f (length a)
-  figures-fit told = rw figures-are (described-fit t told a (info-passed t a (length work) passed))
+  pub figures-fit : Fit (t .distance) f (length a)
+  figures-fit = rw figures-are (described-fit t a (info-passed t a (length work) passed))
 
   pub room-refuses : length work < f .blocks → Ends t a work 5 noFigures work
   unfolding layoutOf

@@ -1,4 +1,4 @@
-// Opening's rules 1 to 8 and 18: all is judged before anything is stored.
+// Opening's rules 16, 1 to 8 and 18: all is judged before anything is stored.
 use super::info::info_block;
 use format::map::word_fault;
 use format::numbers::LaneNo;
@@ -11,6 +11,7 @@ use lanes::map_word;
 use lanes::padding_set;
 use layout::Figures;
 use layout::Told;
+use layout::distance_allowed;
 use layout::length_allowed;
 use machine::answer::Answer;
 use machine::handle::no_figures;
@@ -23,7 +24,7 @@ ghost use Rattle.layout.specs.Fit.{Fit};
 ghost use Rattle.layout.specs.Place.{layoutOf};
 ghost use Rattle.machine.specs.Rules.{answer};
 ghost use Rattle.machine.specs.state.Answer.{numberOf};
-ghost use Rattle.machine.specs.state.Handle.{noFigures, ToldOk};
+ghost use Rattle.machine.specs.state.Handle.{noFigures};
 ghost use Rattle.machine.specs.calls.Opening.{numberOpen, testsOpen, infoRules, mapRules, openNumber};
 ghost use Rattle.machine.specs.calls.Opening.{figuresIn, lanesLost, lanePadded, workAfter};
 ghost use Rattle.lanes.specs.Fit.{MapFit};
@@ -46,11 +47,14 @@ fn refused(answer: Answer) -> Judged
     }
 }
 
-// Rules 1 to 4.
+// Rule 16, of the layout that is told, and rules 1 to 4.
 fn judge_info(a: &[u8], told: Told) -> Judged
     ensures { λ r. ⌜ ((room : ℕ) → numberOf (r .answer) ≡ answer numberOpen (testsOpen told (now (a .entry)) room) infoRules) ⌝ }
     ensures { λ r. ⌜ r .figures ≡ judgedFigures (numberOf (r .answer)) (now (a .entry)) ⌝ }
 {
+    if !distance_allowed(told.distance) {
+        return refused(Answer::BadHandle);
+    }
     let n = a.len();
     if !length_allowed(n) {
         return refused(Answer::WrongLength);
@@ -151,9 +155,8 @@ fn judge_map(a: &[u8], told: Told, f: Figures, work: &mut [u8]) -> Answer
     Answer::Done
 }
 
-// Rules 1 to 8 and 18, as an opening is told, with the figures where none applies.
+// Rules 16, 1 to 8 and 18, as an opening is told, with the figures where none applies.
 pub fn judge(a: &[u8], told: Told, work: &mut [u8]) -> Judged
-    requires { ⌜ ToldOk told ⌝ }
     ensures { λ r. ⌜ numberOf (r .answer) ≡ openNumber told (now (a .entry)) (length (now (work .entry))) ⌝ }
     ensures { λ r. ⌜ r .figures ≡ judgedFigures (openNumber told (now (a .entry)) (length (now (work .entry)))) (now (a .entry)) ⌝ }
     ensures { λ _. ⌜ now (work .exit) ≡ workAfter told (now (a .entry)) (now (work .entry)) ⌝ }

@@ -1,9 +1,9 @@
 -- The claims about figures: from the tests taken apart, from the sums that making rounds up, and from places in bytes.
-use mathlib.Core.Path.{_≡_, refl, ap, _∙_}
-use mathlib.Core.Logic.{inr, ⊎-elim}
+use mathlib.Core.Path.{_≡_, refl}
+use mathlib.Core.Logic.{_⊎_, inl, inr, ⊎-elim}
 use mathlib.Core.Bool.{true}
 use mathlib.Core.List.{List}
-use Prim.Native.Nat.{ℕ, _+_, _*_, _%_}
+use Prim.Native.Nat.{ℕ, _+_, _*_, _/_, _%_, _≤_, _<_}
 use native.Mathlib.Omega.{arith}
 use lib.Dec.{eqb, leb}
 use borrow.Author.Tests.{eqb-true, leb-true, eq-eqb, le-leb}
@@ -21,11 +21,11 @@ use Rattle.layout.specs.Figures.{
   figuresAt,
 }
 use Rattle.layout.specs.Place.{layoutOf}
-use Rattle.layout.specs.Claims.{Length, Sizes, LeastMultiple, FreshLayout, Places, FiguresFrom, AllowedClaim, FreshLayoutClaim, PlacesClaim}
+use Rattle.layout.specs.Claims.{Length, Sizes, Distance, InPadding, LeastMultiple, FreshLayout, Places, FiguresFrom, AllowedClaim, FreshLayoutClaim, PlacesClaim}
 use Rattle.layout.specs.declared.Figures.{Figures}
-use Rattle.layout.proofs.Allowed.{sizes-of, of-sizes, size-words, starts-exact, allowed-of, of-allowed, made-allowed}
+use Rattle.layout.proofs.Allowed.{sizes-of, of-sizes, distance-of, of-distance, distance-ok, size-words, starts-exact, allowed-of, of-allowed, made-allowed}
 use Rattle.layout.proofs.Offsets.{data-start, map-start, flog-start, lane-start}
-use Rattle.layout.proofs.Padding.{padding-is, is-padding, padding-byte, byte-padding}
+use Rattle.layout.proofs.Padding.{padding-byte, byte-padding}
 
 length-is : (n : ℕ) → lengthAllowed n ≡ true → Length n
 length-is n e =
@@ -51,6 +51,8 @@ allowed-claim =
       length-back = is-length;
       sizes = sizes-are;
       sizes-back = are-sizes;
+      distance = distance-of;
+      distance-back = of-distance;
       figures = allowed-of;
       figures-back = of-allowed;
     }
@@ -82,22 +84,33 @@ made-claim =
       allowed = λ size sectors lanes s. made-allowed size sectors lanes (are-sizes size sectors lanes s);
     }
 
-places-of : (f : Figures) (n : ℕ) → Allowed f n → Places f
+whole : (k : ℕ) → 4 * k / 4 ≡ k
+whole k = omega arith
+
+places-of : (d : ℕ) → Distance d → (f : Figures) (n : ℕ) → Allowed f n → Places d f
 unfolding layoutOf
-places-of f n ok =
+places-of d w f n ok =
+    let apart = distance-ok d (of-distance d w) in
     record {
-      in-data = data-start 16 f n ok;
-      in-map = map-start 16 f n ok;
-      in-flog = λ l h k. flog-start 16 f n ok refl l h k ∙ ap (λ (x : ℕ). f .flogoff + 64 * l + x + 4 * k) (omega arith);
-      in-lane = lane-start 16 f n ok;
-      padding = λ k e. let p = padding-is 4 k e in ⊎-elim (λ u. omega (arith, p .0)) (λ u. omega arith) (p .1);
-      padding-back = λ k u. is-padding 4 k (omega arith, inr (omega arith));
+      in-data = data-start d f n ok;
+      in-map = map-start d f n ok;
+      in-flog = flog-start d f n ok (apart .words);
+      in-lane = lane-start d f n ok;
+      padding = λ k e. padding-byte d (4 * k) apart (rw (whole k) e);
+      padding-back = λ k p. rw (whole k) at (byte-padding d (4 * k) apart p);
       copy = starts-exact f n ok .3;
       sector = omega (arith, size-words f n ok .0);
       sectors = refl;
       lanes = refl;
       blocks = refl;
     }
+
+-- in numbers
+padding-16 : (j : ℕ) → j < 64 → InPadding 16 j → (32 ≤ j) × (j ≤ 63)
+padding-16 j u p = ⊎-elim (λ v. (omega (arith, p .0), omega arith)) (λ v. (omega arith, omega arith)) (p .1)
+
+padding-32 : (j : ℕ) → j < 64 → InPadding 32 j → ((16 ≤ j) × (j ≤ 31)) ⊎ ((48 ≤ j) × (j ≤ 63))
+padding-32 j u p = ⊎-elim (λ v. inl (p .0, omega arith)) (λ v. inr (omega arith, omega arith)) (p .1)
 
 figures-from : (b : List ℕ) (i j : ℕ) → FiguresFrom b (4 * i) (4 * j) (figuresAt b i j)
 unfolding figuresAt
@@ -118,10 +131,13 @@ pub places-claim : PlacesClaim
 places-claim =
     record {
       places = places-of;
-      by-itself = (refl, refl);
+      by-itself = λ d. (refl, refl);
+      near-by-itself = (refl, refl);
       padding-byte = padding-byte;
       padding-byte-back = byte-padding;
-      padding-by-itself = λ j p. ⊎-elim (λ u. omega (arith, p .0)) (λ u. u) (p .1);
-      padding-by-itself-back = λ j u. (omega arith, inr u);
+      padding-16 = padding-16;
+      padding-16-back = λ j p. (omega (arith, p .0), inr (omega (arith, p .0)));
+      padding-32 = padding-32;
+      padding-32-back = λ j p. ⊎-elim (λ q. (q .0, inl (omega (arith, q .1)))) (λ q. (omega (arith, q .0), inr (omega (arith, q .0)))) p;
       figures = figures-from;
     }

@@ -1,7 +1,8 @@
 -- Places in bytes. The starts and the size of a block are multiples of 4, so four times the word number of a place is its byte number.
-use mathlib.Core.Path.{_≡_}
+use mathlib.Core.Path.{_≡_, _∙_}
 use Prim.Native.Nat.{ℕ, _+_, _*_, _/_, _%_}
 use native.Mathlib.Omega.{arith}
+use native.Mathlib.Nat.{mul-comm}
 use Rattle.layout.specs.Figures.{Allowed}
 use Rattle.layout.specs.Place.{layoutOf, at, inData, inMap, inFlog, laneWordAt}
 use Rattle.layout.specs.declared.Figures.{Figures}
@@ -19,10 +20,10 @@ module _ (d : ℕ) (f : Figures) (n : ℕ) (ok : Allowed f n) where
   unfolding layoutOf
   map-start s = omega (arith, starts-exact f n ok .1)
 
-  pub flog-start : d % 4 ≡ 0 → (l h k : ℕ) → 4 * at (layoutOf d f) (inFlog l h k) ≡ f .flogoff + 64 * l + h * d + 4 * k
+  pub flog-start : d % 4 ≡ 0 → (l h k : ℕ) → 4 * at (layoutOf d f) (inFlog l h k) ≡ f .flogoff + 64 * l + d * h + 4 * k
   unfolding layoutOf
   flog-start e l h k =
-      let q : h * d ≡ 4 * (h * (d / 4)) = quarter h d e in
+      let q : d * h ≡ 4 * (h * (d / 4)) = mul-comm d h ∙ quarter h d e in
       omega (arith, q, starts-exact f n ok .2)
 
   pub lane-start : (l k : ℕ) → 4 * laneWordAt (layoutOf d f) l k ≡ f .flogoff + 64 * l + 4 * k

@@ -16,7 +16,7 @@ use Rattle.layout.specs.Figures.{
   figuresAt,
 }
 use Rattle.layout.specs.Place.{layoutOf, at, inData, inMap, inFlog, laneWordAt, isPadding}
-use Rattle.layout.specs.Told.{alone, DistanceOk}
+use Rattle.layout.specs.Told.{distanceAllowed, alone, aloneNear, DistanceOk}
 use Rattle.layout.specs.declared.Figures.{Figures}
 
 -- FORMAT 2.2: a multiple of 4,096, from 20,480 to 16,777,216
@@ -51,30 +51,34 @@ pub record FreshLayout (S E N : ℕ) (f : Figures) (length : ℕ) : Type 0 where
   pub copy-start : LeastMultiple (f .flogoff + 64 * N) (f .copyoff)
   pub end : length ≡ f .copyoff + 4096
 
+-- FORMAT 5.1: the layouts, by the bytes from a lane's first half to its second
+abbrev pub Distance : ℕ → Type 0
+Distance d = (d ≡ 16) ⊎ (d ≡ 32)
+
 -- byte j of a lane's 64 is in no half: the first half is 16 bytes from 0 on, the second 16 from d on
 abbrev pub InPadding : ℕ → ℕ → Type 0
 InPadding d j = (16 ≤ j) × ((j < d) ⊎ (d + 16 ≤ j))
 
--- where an arena with those figures has its words, in bytes, and how much of each there is
-pub record Places (f : Figures) : Type 0 where
+-- where an arena with those figures has its words, in bytes, and how much of each there is; the halves of a lane start d bytes apart
+pub record Places (d : ℕ) (f : Figures) : Type 0 where
   -- word k of block b
-  pub in-data : (b k : ℕ) → 4 * at (layoutOf 16 f) (inData b k) ≡ f .dataoff + b * f .internal + 4 * k
+  pub in-data : (b k : ℕ) → 4 * at (layoutOf d f) (inData b k) ≡ f .dataoff + b * f .internal + 4 * k
   -- the map word of sector s
-  pub in-map : (s : ℕ) → 4 * at (layoutOf 16 f) (inMap s) ≡ f .mapoff + 4 * s
+  pub in-map : (s : ℕ) → 4 * at (layoutOf d f) (inMap s) ≡ f .mapoff + 4 * s
   -- word k of half h of lane l
-  pub in-flog : (l h k : ℕ) → 4 * at (layoutOf 16 f) (inFlog l h k) ≡ f .flogoff + 64 * l + 16 * h + 4 * k
+  pub in-flog : (l h k : ℕ) → 4 * at (layoutOf d f) (inFlog l h k) ≡ f .flogoff + 64 * l + d * h + 4 * k
   -- word k of the 16 of lane l
-  pub in-lane : (l k : ℕ) → 4 * laneWordAt (layoutOf 16 f) l k ≡ f .flogoff + 64 * l + 4 * k
-  -- padding is what starts at byte 32 or later
-  pub padding : (k : ℕ) → isPadding ((layoutOf 16 f) .D) k ≡ true → 32 ≤ 4 * k
-  pub padding-back : (k : ℕ) → 32 ≤ 4 * k → isPadding ((layoutOf 16 f) .D) k ≡ true
+  pub in-lane : (l k : ℕ) → 4 * laneWordAt (layoutOf d f) l k ≡ f .flogoff + 64 * l + 4 * k
+  -- it is padding exactly if its first byte is
+  pub padding : (k : ℕ) → isPadding ((layoutOf d f) .D) k ≡ true → InPadding d (4 * k)
+  pub padding-back : (k : ℕ) → InPadding d (4 * k) → isPadding ((layoutOf d f) .D) k ≡ true
   -- the copy of the info block
-  pub copy : 4 * (layoutOf 16 f) .copy₀ ≡ f .copyoff
+  pub copy : 4 * (layoutOf d f) .copy₀ ≡ f .copyoff
   -- how many there are: bytes of a sector, sectors, lanes and blocks
-  pub sector : 4 * (layoutOf 16 f) .W ≡ f .size
-  pub sectors : (layoutOf 16 f) .E ≡ f .sectors
-  pub lanes : (layoutOf 16 f) .N ≡ f .lanes
-  pub blocks : (layoutOf 16 f) .I ≡ f .blocks
+  pub sector : 4 * (layoutOf d f) .W ≡ f .size
+  pub sectors : (layoutOf d f) .E ≡ f .sectors
+  pub lanes : (layoutOf d f) .N ≡ f .lanes
+  pub blocks : (layoutOf d f) .I ≡ f .blocks
 
 -- five figures from byte o on, and four starts from byte q on
 pub record FiguresFrom (b : List ℕ) (o q : ℕ) (f : Figures) : Type 0 where
@@ -88,12 +92,14 @@ pub record FiguresFrom (b : List ℕ) (o q : ℕ) (f : Figures) : Type 0 where
   pub flog-start : f .flogoff ≡ byteLong b (q + 16)
   pub copy-start : f .copyoff ≡ byteLong b (q + 24)
 
--- FORMAT 2.2, 3.1 and 3.2: what the tests of the code let pass
+-- FORMAT 2.2, 3.1, 3.2 and 5.1: what the tests of the code let pass
 pub record AllowedClaim : Type 0 where
   pub length : (n : ℕ) → lengthAllowed n ≡ true → Length n
   pub length-back : (n : ℕ) → Length n → lengthAllowed n ≡ true
   pub sizes : (S E N : ℕ) → sizesAllowed S E N ≡ true → Sizes S E N
   pub sizes-back : (S E N : ℕ) → Sizes S E N → sizesAllowed S E N ≡ true
+  pub distance : (d : ℕ) → distanceAllowed d ≡ true → Distance d
+  pub distance-back : (d : ℕ) → Distance d → distanceAllowed d ≡ true
   -- row by row of the table
   pub figures : (f : Figures) (n : ℕ) → figuresAllowed f n ≡ true → Allowed f n
   pub figures-back : (f : Figures) (n : ℕ) → Allowed f n → figuresAllowed f n ≡ true
@@ -107,13 +113,16 @@ pub record FreshLayoutClaim : Type 0 where
 
 -- FORMAT 2.1 and 5.1: where the words of an arena stand
 pub record PlacesClaim : Type 0 where
-  pub places : (f : Figures) (n : ℕ) → Allowed f n → Places f
-  -- an arena opened by itself: no arena follows, and a lane's halves start 16 bytes apart
-  pub by-itself : (alone .next ≡ 0) × (alone .distance ≡ 16)
+  pub places : (d : ℕ) → Distance d → (f : Figures) (n : ℕ) → Allowed f n → Places d f
+  -- an arena opened by itself: no arena follows, and the layout is the one that is told; the report and a replay have 16
+  pub by-itself : (d : ℕ) → (alone d .next ≡ 0) × (alone d .distance ≡ d)
+  pub near-by-itself : (aloneNear .next ≡ 0) × (aloneNear .distance ≡ 16)
   -- byte j of a lane is padding exactly if its word is, whatever the distance between the halves
   pub padding-byte : (d j : ℕ) → DistanceOk d → isPadding (d / 4) (j / 4) ≡ true → InPadding d j
   pub padding-byte-back : (d j : ℕ) → DistanceOk d → InPadding d j → isPadding (d / 4) (j / 4) ≡ true
-  -- of an arena opened by itself: bytes 32 to 63
-  pub padding-by-itself : (j : ℕ) → InPadding (alone .distance) j → 32 ≤ j
-  pub padding-by-itself-back : (j : ℕ) → 32 ≤ j → InPadding (alone .distance) j
+  -- in numbers: bytes 32 to 63 in the one layout, 16 to 31 and 48 to 63 in the other
+  pub padding-16 : (j : ℕ) → j < 64 → InPadding 16 j → (32 ≤ j) × (j ≤ 63)
+  pub padding-16-back : (j : ℕ) → (32 ≤ j) × (j ≤ 63) → InPadding 16 j
+  pub padding-32 : (j : ℕ) → j < 64 → InPadding 32 j → ((16 ≤ j) × (j ≤ 31)) ⊎ ((48 ≤ j) × (j ≤ 63))
+  pub padding-32-back : (j : ℕ) → ((16 ≤ j) × (j ≤ 31)) ⊎ ((48 ≤ j) × (j ≤ 63)) → InPadding 32 j
   pub figures : (b : List ℕ) (i j : ℕ) → FiguresFrom b (4 * i) (4 * j) (figuresAt b i j)

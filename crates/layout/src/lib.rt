@@ -13,10 +13,15 @@ ghost use lib.ListN.{length};
 ghost use Rattle.layout.specs.Figures.{maxSize, internalOf, lengthAllowed, sizesAllowed, startsAligned, partsInOrder, figuresAllowed};
 ghost use Rattle.layout.specs.Figures.{roundUp, freshLength, freshFigures, figuresAt};
 ghost use Rattle.layout.specs.Place.{layoutOf, inData, inMap, inFlog, at, laneWordAt, isPadding};
-ghost use Rattle.layout.specs.Told.{alone};
+ghost use Rattle.layout.specs.Told.{alone, distanceAllowed};
 
 // The most lanes that an arena has.
 pub const MAX_LANES: u32 = 16;
+
+// The two layouts: a lane's second half starts so many bytes after the first. The report and a replay use the near one.
+pub const NEAR: u32 = 16;
+
+pub const FAR: u32 = 32;
 
 // The words of a half of a lane's flog.
 const HALF_WORDS: usize = 4;
@@ -46,14 +51,24 @@ pub struct Told {
     pub distance: u32,
 }
 
-// What the opening of an arena by itself is told.
-pub fn alone() -> Told
-    ensures { λ r. ⌜ r ≡ alone ⌝ }
+// What the opening of an arena by itself is told, in the layout whose halves start d bytes apart.
+pub fn alone(d: u32) -> Told
+    ensures { λ r. ⌜ r ≡ alone d ⌝ }
 {
     Told {
         next: 0,
-        distance: 16,
+        distance: d,
     }
+}
+
+// Rule 16, of a layout: whether a lane's halves may start d bytes apart.
+pub fn distance_allowed(d: u32) -> bool
+    ensures { λ r. ⌜ r ≡ distanceAllowed d ⌝ }
+{
+    if d == NEAR {
+        return true;
+    }
+    d == FAR
 }
 
 // The five figures from word i on and the four starts from word j on.

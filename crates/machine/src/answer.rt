@@ -38,7 +38,7 @@ pub enum Answer {
     LaneIdle,
     // 15: the sector read is bad.
     BadSector,
-    // 16: the handle breaks a figure or does not match the slice.
+    // 16: the handle breaks a figure or does not match the slice, or a layout is neither 16 nor 32.
     BadHandle,
     // 18: a map word with flags 00 or the padding of a lane is not zero.
     Sloppy,

@@ -1,7 +1,8 @@
-// The handle that opening gives: the slice's length, the figures, and an array of records, of which the first are the lanes'.
+// The handle that opening gives: the slice's length, the layout, the figures, and an array of records, of which the first are the lanes'.
 use super::lane::Lane;
 use layout::Figures;
 use layout::MAX_LANES;
+use layout::distance_allowed;
 use layout::figures_allowed;
 use layout::length_allowed;
 ghost use mathlib.Core.Path.{_≡_};
@@ -19,6 +20,8 @@ pub const RECORDS: usize = MAX_LANES as usize;
 
 pub struct Handle {
     pub length: u64,
+    // The layout: bytes from a lane's first half to its second.
+    pub distance: u32,
     pub figures: Figures,
     pub lanes: [Lane; RECORDS],
 }
@@ -49,6 +52,7 @@ pub fn no_handle() -> Handle
     let figures = no_figures();
     Handle {
         length: 0,
+        distance: 0,
         figures: figures,
         lanes: lanes,
     }
@@ -100,7 +104,7 @@ fn lanes_allowed(h: Handle) -> bool
     true
 }
 
-// Rule 16 does not apply: the figures are allowed and match a slice of that length, and the lanes' records are in range.
+// Rule 16 does not apply: the layout and the figures are allowed and match a slice of that length, and the lanes' records are in range.
 pub fn handle_allowed(h: Handle, total: usize) -> bool
     ensures { λ t. ⌜ t ≡ handleAllowed (unpacked h) total ⌝ }
 {
@@ -108,6 +112,9 @@ pub fn handle_allowed(h: Handle, total: usize) -> bool
         return false;
     }
     if h.length != total as u64 {
+        return false;
+    }
+    if !distance_allowed(h.distance) {
         return false;
     }
     if !figures_allowed(h.figures, total) {

@@ -12,7 +12,7 @@ use Rattle.words.specs.Word.{putWord, putWords}
 use Rattle.words.proofs.Runs.{putWords-append}
 use Rattle.layout.specs.Figures.{lengthAllowed, sizesAllowed, freshLength, freshFigures}
 use Rattle.layout.specs.Place.{layoutOf}
-use Rattle.layout.specs.Told.{alone}
+use Rattle.layout.specs.Told.{aloneNear}
 use Rattle.layout.specs.declared.Figures.{Figures}
 use Rattle.machine.specs.calls.Making.{
   Wanted,
@@ -29,7 +29,7 @@ use Rattle.machine.specs.calls.Making.{
   makeOf,
 }
 use Rattle.format.proofs.Tests.{and-elim}
-use Rattle.layout.proofs.Allowed.{made-allowed, alone-ok, fit-of}
+use Rattle.layout.proofs.Allowed.{made-allowed, distance-ok, fit-of}
 use Rattle.machine.proofs.rules.Rules.{Walk, walked, passed-all}
 use Rattle.machine.proofs.making.Making.{some-number-make}
 use Rattle.infoblock.proofs.InfoBlock.{length-of}
@@ -139,10 +139,10 @@ make-passed o n e =
     }
 
 -- and its figures fit
-pub made-fit : (o : Wanted) (n : ℕ) → MakingPassed o n → Fit (alone .distance) (freshFigures (o .size) (o .sectors) (o .lanes)) n
+pub made-fit : (o : Wanted) (n : ℕ) → MakingPassed o n → Fit (aloneNear .distance) (freshFigures (o .size) (o .sectors) (o .lanes)) n
 made-fit o n p =
     let a = made-allowed (o .size) (o .sectors) (o .lanes) (p .sizes) in
-    fit-of (alone .distance) alone-ok _ n (rw (p .made) a) (p .whole) (p .most)
+    fit-of (aloneNear .distance) (distance-ok _ refl) _ n (rw (p .made) a) (p .whole) (p .most)
 
 -- what making gives, refused and not
 module _ (o : Wanted) (n : ℕ) (a : List ℕ) (e : n ≡ makeNumber o (length a)) where

@@ -13,7 +13,7 @@ ghost use Prim.Native.Nat.{_+_, _*_, _≤_, _<_};
 ghost use lib.ListN.{length};
 ghost use Rattle.words.specs.Word.{putWords};
 ghost use Rattle.layout.specs.Place.{layoutOf};
-ghost use Rattle.layout.specs.Told.{alone};
+ghost use Rattle.layout.specs.Told.{aloneNear};
 ghost use Rattle.infoblock.specs.Info.{infoWords};
 ghost use Rattle.machine.specs.state.Answer.{numberOf};
 ghost use Rattle.machine.specs.calls.Making.{freshLane, freshFlog, dataEnd, tailWords, makeNumber, makeOf};
@@ -46,9 +46,9 @@ fn put_flog(a: &mut [u8], i: usize, sectors: u32, n: u32)
 
 // Stores all that follows the data blocks: padding, map, flog, padding and the copy of the info block.
 fn put_tail(a: &mut [u8], f: Figures, first: &[u8], second: &[u8])
-    requires { ⌜ Fit (alone .distance) f (length (now a)) ⌝ }
+    requires { ⌜ Fit (aloneNear .distance) f (length (now a)) ⌝ }
     requires { ⌜ (16 ≤ length (now first)) × (16 ≤ length (now second)) ⌝ }
-    ensures { λ _. let g = layoutOf (alone .distance) f in
+    ensures { λ _. let g = layoutOf (aloneNear .distance) f in
         ⌜ now (a .exit) ≡ putWords (now (a .entry)) (dataEnd g) (tailWords g (infoWords (now (first .entry)) (now (second .entry)) f)) ⌝ }
 {
     let end = (f.dataoff / 4) as usize + (f.blocks as usize) * ((f.internal / 4) as usize);

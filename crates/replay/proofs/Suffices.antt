@@ -4,6 +4,7 @@ use Prim.Native.Nat.{_*_, _≤_}
 use native.Mathlib.Omega.{arith}
 use lib.ListN.{length}
 use borrow.Author.Tests.{leb-true}
+use Rattle.layout.specs.Told.{aloneNear}
 use Rattle.machine.proofs.opening.Room.{room-suffices}
 use Rattle.replay.specs.Transcript.{workBuffer}
 use Rattle.replay.specs.Claims.{WorkSuffices}
@@ -12,4 +13,4 @@ enough : 49152 ≤ 512 * length workBuffer
 enough = leb-true 49152 (512 * length workBuffer) refl
 
 pub work-suffices : WorkSuffices
-work-suffices a work h e = room-suffices a work (rw e (omega (arith, enough)))
+work-suffices a work h e = room-suffices aloneNear a work (rw e (omega (arith, enough)))

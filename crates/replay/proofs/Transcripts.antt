@@ -1,5 +1,6 @@
 -- What is written: by the arena's length, and then by what the claim about a replay says of it.
 use mathlib.Core.Path.{_≡_, refl, _∙_}
+use mathlib.Core.Logic.{inl}
 use mathlib.Core.Bool.{false}
 use mathlib.Core.List.{List}
 use Prim.Native.Nat.{ℕ, _≤_}
@@ -42,5 +43,5 @@ transcript-claim = record {
       (λ t. simp (replayed a log (omega arith), q .0, p .answers, p .stops t .0, p .stops t .1, p .arena, t))
       (λ t. rw (t, no-offset (replies a workBuffer log) ((logOf log) .at) 0)
       (simp (replayed a log (omega arith), q .0, p .answers, p .whole t .0, p .whole t .1, p .arena)));
-  exhibited = (made .bytes .size ∙ length-replicate {A = ℕ} 49152 0, exhibited .small, made .number workBuffer (omega arith));
+  exhibited = (made .bytes .size ∙ length-replicate {A = ℕ} 49152 0, exhibited 16 (inl refl) .small, made .opens 16 (inl refl) .number workBuffer (omega arith));
 }

@@ -15,7 +15,7 @@ use Rattle.words.specs.Bytes.{Small}
 use Rattle.format.proofs.Below.{below-append, below-replicate, below-drop}
 use Rattle.format.proofs.Tests.{by-bool}
 use Rattle.layout.specs.Place.{layoutOf}
-use Rattle.layout.specs.Told.{alone}
+use Rattle.layout.specs.Told.{aloneNear}
 use Rattle.layout.specs.declared.Figures.{Figures}
 use Rattle.machine.specs.Rules.{answer}
 use Rattle.machine.specs.state.Handle.{Handle}
@@ -23,7 +23,7 @@ use Rattle.machine.specs.calls.Opening.{Opening, figuresIn, openOf}
 use Rattle.machine.specs.calls.Reading.{readOf}
 use Rattle.machine.specs.calls.History.{State, Reply, opened, afterEvent, replyEvents, runEvents, openedFrom}
 use Rattle.machine.specs.models.Row.{Sector, holds, Row, storesOf, wordByWord, rowNumber, rowRead, rowOpenNumber, rowAfterEvent, rowReplies, firstRow, reopened}
-use Rattle.machine.proofs.opening.Described.{told-alone, described-figures}
+use Rattle.machine.proofs.opening.Described.{described-figures}
 use Rattle.machine.proofs.opening.Opening.{opening-claim}
 use Rattle.machine.proofs.opening.Opens.{open-zero, opened-figures, opened-idle}
 use Rattle.machine.proofs.calls.Packing.{packing-claim}
@@ -76,41 +76,41 @@ module _ (f : Figures) (z : Sized f) where
       rw (n .holds, read-holds f (n .bytes) s buffer u v) (record { number = refl; bytes = n .size; words = λ k w. n .words k w w })
 
   -- an arena and handle that a row stands for, against the first
-  reads-by : (x y : State) (row₀ row : Row) (k : Ledger) → x .handle .figures ≡ f → y .handle .figures ≡ f → RepIn alone row₀ x → RepIn alone row y
+  reads-by : (x y : State) (row₀ row : Row) (k : Ledger) → x .handle .figures ≡ f → y .handle .figures ≡ f → RepIn aloneNear row₀ x → RepIn aloneNear row y
       → Noted f (z .whole) row₀ row k → (s : ℕ) (buffer : List ℕ) → s < f .sectors → length buffer ≡ f .size
       → SectorReads (f .size) (readOf (x .arena) (x .handle) s buffer) (readOf (y .arena) (y .handle) s buffer) (k .sector s)
   reads-by x y row₀ row k g g′ r r′ n s buffer u v =
-      rw (read-is alone told-alone row₀ (x .arena) (x .handle) r s buffer, read-is alone told-alone row (y .arena) (y .handle) r′ s buffer, g, g′)
+      rw (read-is aloneNear row₀ (x .arena) (x .handle) r s buffer, read-is aloneNear row (y .arena) (y .handle) r′ s buffer, g, g′)
       (rw (row-read f row₀ s buffer, row-read f row s buffer)
       (sector-reads (row₀ .sector s) (row .sector s) (k .sector s) (n .sector s) s buffer u v))
 
 -- ---- the first opening
 
-module _ (a work : List ℕ) (small : Small a) (small-work : Small work) (e : (openOf alone a work) .number ≡ 0) where
+module _ (a work : List ℕ) (small : Small a) (small-work : Small work) (e : (openOf aloneNear a work) .number ≡ 0) where
   abbrev first : State
-  first = openedFrom alone a work
+  first = openedFrom aloneNear a work
 
   abbrev f : Figures
   f = first .handle .figures
 
   figures-are : f ≡ figuresIn a
-  figures-are = opened-figures alone told-alone a work e
+  figures-are = opened-figures aloneNear a work e
 
-  rep₀ : RepIn alone (firstRow first) first
-  rep₀ = first-rep alone told-alone first (held-open alone told-alone a work small e) (opened-idle alone told-alone a work e)
+  rep₀ : RepIn aloneNear (firstRow first) first
+  rep₀ = first-rep aloneNear first (held-open aloneNear a work small e) (opened-idle aloneNear a work e)
 
   room : (figuresIn a) .blocks ≤ length work
-  room = unfold layoutOf in (opening-claim alone told-alone .answers a work small .accepts e .1)
+  room = unfold layoutOf in (opening-claim aloneNear .answers a work small .accepts e .1)
 
   sized : Sized f
   sized = record {
-    whole = unfold layoutOf in (held-whole alone told-alone (first .arena) (first .handle) (rep₀ .held));
+    whole = unfold layoutOf in (held-whole aloneNear (first .arena) (first .handle) (rep₀ .held));
     size =
-        let d = open-zero alone told-alone a (length work) (unfold openOf in e) .0 .info in
-        rw figures-are (⊎-elim (λ h. omega arith) (λ h. omega arith) (described-figures alone told-alone a d .size));
+        let d = open-zero aloneNear a (length work) (unfold openOf in e) .0 .info in
+        rw figures-are (⊎-elim (λ h. omega arith) (λ h. omega arith) (described-figures aloneNear a d .size));
   }
 
-  cleared : Cleared f ((openOf alone a work) .work)
+  cleared : Cleared f ((openOf aloneNear a work) .work)
   cleared = rw (figures-are, work-is) (record {
     small = below-append 256 (replicate n 0) (drop n work) (below-replicate 256 n 0 (omega arith)) (below-drop 256 n work small-work);
     room = omega (arith, length-append (replicate n 0) (drop n work), length-replicate {A = ℕ} n 0);
@@ -120,17 +120,17 @@ module _ (a work : List ℕ) (small : Small a) (small-work : Small work) (e : (o
       n : ℕ
       n = (figuresIn a) .blocks
 
-      work-is : (openOf alone a work) .work ≡ replicate ((figuresIn a) .blocks) 0 ++ drop ((figuresIn a) .blocks) work
-      work-is = unfold layoutOf in (opening-claim alone told-alone .work a work .cleared (inl e))
+      work-is : (openOf aloneNear a work) .work ≡ replicate ((figuresIn a) .blocks) 0 ++ drop ((figuresIn a) .blocks) work
+      work-is = unfold layoutOf in (opening-claim aloneNear .work a work .cleared (inl e))
 
   -- ---- the records of a log
 
   module _ (log : List ℕ) (small-log : Small log) where
     abbrev x : Point
-    x = openedPoint (openOf alone a work)
+    x = openedPoint (openOf aloneNear a work)
 
     first-state : stateOf x ≡ first
-    first-state = ap (λ (h : Handle). record { arena = (openOf alone a work) .arena; handle = h }) (packing-claim .opened a work e)
+    first-state = ap (λ (h : Handle). record { arena = (openOf aloneNear a work) .arena; handle = h }) (packing-claim .opened 16 a work e)
 
     first-figures : x .handle .figures ≡ f
     first-figures = ap (λ (y : State). y .handle .figures) first-state
@@ -138,10 +138,10 @@ module _ (a work : List ℕ) (small : Small a) (small-work : Small work) (e : (o
     abbrev records : List Record
     records = (logOf log) .records
 
-    followed : Followed (firstRow first) ((openOf alone a work) .work) f sized cleared 0 x records (firstRow first) noLines
-    followed = follow (firstRow first) ((openOf alone a work) .work) f sized cleared records 0 x (firstRow first) noLines first-figures
+    followed : Followed (firstRow first) ((openOf aloneNear a work) .work) f sized cleared 0 x records (firstRow first) noLines
+    followed = follow (firstRow first) ((openOf aloneNear a work) .work) f sized cleared records 0 x (firstRow first) noLines first-figures
         (record {
-          rep = subst (λ (y : State). RepIn alone (firstRow first) y) (sym first-state) rep₀;
+          rep = subst (λ (y : State). RepIn aloneNear (firstRow first) y) (sym first-state) rep₀;
           work = refl;
           noted = record { lane = λ l. tt; sector = λ s. refl };
         })
@@ -155,10 +155,10 @@ module _ (a work : List ℕ) (small : Small a) (small-work : Small work) (e : (o
     end = last a work log
 
     last-is : stateOf (runAll 0 x records) ≡ end
-    last-is = followed .state ∙ ap (λ (y : State). runEvents alone y (events a work log)) first-state
+    last-is = followed .state ∙ ap (λ (y : State). runEvents aloneNear y (events a work log)) first-state
 
-    rep-last : RepIn alone (followed .row) end
-    rep-last = subst (λ (y : State). RepIn alone (followed .row) y) last-is (followed .stands .rep)
+    rep-last : RepIn aloneNear (followed .row) end
+    rep-last = subst (λ (y : State). RepIn aloneNear (followed .row) y) last-is (followed .stands .rep)
 
     last-figures : end .handle .figures ≡ f
     last-figures = ap (λ (y : State). y .handle .figures) (sym last-is) ∙ followed .figures
@@ -168,23 +168,23 @@ module _ (a work : List ℕ) (small : Small a) (small-work : Small work) (e : (o
       room-is : end .handle .figures .blocks ≤ length again
       room-is = rw (last-figures, figures-are) u
 
-      opens : (openOf alone (end .arena) again) .number ≡ 0
-      opens = accepted alone told-alone (followed .row) end rep-last again room-is
+      opens : (openOf aloneNear (end .arena) again) .number ≡ 0
+      opens = accepted aloneNear (followed .row) end rep-last again room-is
 
-      opened-again : afterEvent alone end (opened again) ≡ openedFrom alone (end .arena) again
+      opened-again : afterEvent aloneNear end (opened again) ≡ openedFrom aloneNear (end .arena) again
       opened-again = rw opens
 
       row-again : rowAfterEvent wordByWord (end .handle .figures) (followed .row) (opened again) ≡ reopened f (followed .row)
       unfolding rowAfterEvent rowOpenNumber answer
       row-again = rw (le-ltb _ _ room-is, last-figures)
 
-      rep-again : Small again → RepIn alone (reopened f (followed .row)) (openedFrom alone (end .arena) again)
-      rep-again q = subst (λ (y : State). RepIn alone (reopened f (followed .row)) y) opened-again
-          (subst (λ (y : Row). RepIn alone y (afterEvent alone end (opened again))) row-again
-          (event-rep alone told-alone (followed .row) end rep-last (opened again) q))
+      rep-again : Small again → RepIn aloneNear (reopened f (followed .row)) (openedFrom aloneNear (end .arena) again)
+      rep-again q = subst (λ (y : State). RepIn aloneNear (reopened f (followed .row)) y) opened-again
+          (subst (λ (y : Row). RepIn aloneNear y (afterEvent aloneNear end (opened again))) row-again
+          (event-rep aloneNear (followed .row) end rep-last (opened again) q))
 
-      again-figures : (openedFrom alone (end .arena) again) .handle .figures ≡ f
-      again-figures = alike-open alone told-alone end again (rep-last .held) opens .figures ∙ last-figures
+      again-figures : (openedFrom aloneNear (end .arena) again) .handle .figures ≡ f
+      again-figures = alike-open aloneNear end again (rep-last .held) opens .figures ∙ last-figures
 
     -- the answers, and the ledger that they give
     abbrev given : List ℕ
@@ -206,7 +206,7 @@ module _ (a work : List ℕ) (small : Small a) (small-work : Small work) (e : (o
       whole = λ t. rw (replay-is, t) (refl, refl);
       stops = λ t. rw (replay-is, t) (refl, refl);
       answers = numbers-are
-          ∙ followed .numbers ∙ ap (λ (y : State). map (λ (r : Reply). r .number) (replyEvents alone y (events a work log))) first-state;
+          ∙ followed .numbers ∙ ap (λ (y : State). map (λ (r : Reply). r .number) (replyEvents aloneNear y (events a work log))) first-state;
       arena = rw replay-is (ap (λ (y : State). y .arena) last-is);
       buffer = rw replay-is (followed .stands .work);
       cuts = subst (CutsOpen records) (sym numbers-are) (followed .cuts);
@@ -214,17 +214,17 @@ module _ (a work : List ℕ) (small : Small a) (small-work : Small work) (e : (o
           (reads-by f sized first end (firstRow first) (followed .row) (lines given) refl last-figures rep₀ rep-last (followed .stands .noted));
       opens = opens;
       reopened = λ again q u. subst
-          (λ (ns : List ℕ). ReadsBy first (openedFrom alone (end .arena) again) ((cutNoted (storesOf f) (f .lanes) (lines ns)) .sector)) (sym numbers-are)
-          (reads-by f sized first (openedFrom alone (end .arena) again) (firstRow first) (reopened f (followed .row)) _ refl
+          (λ (ns : List ℕ). ReadsBy first (openedFrom aloneNear (end .arena) again) ((cutNoted (storesOf f) (f .lanes) (lines ns)) .sector)) (sym numbers-are)
+          (reads-by f sized first (openedFrom aloneNear (end .arena) again) (firstRow first) (reopened f (followed .row)) _ refl
           (again-figures again u) rep₀ (rep-again again u q)
           (reopened-noted f (sized .whole) (firstRow first) (followed .row) (lines given) (followed .stands .noted)));
     }
 
 -- ---- a refused opening
 
-module _ (a work log : List ℕ) (n : (openOf alone a work) .number ≢ 0) where
+module _ (a work log : List ℕ) (n : (openOf aloneNear a work) .number ≢ 0) where
   abbrev o : Opening
-  o = openOf alone a work
+  o = openOf aloneNear a work
 
   refused-is : replayOf a work log ≡ record { first = o .number; numbers = []; stopped = false; at = 0; arena = o .arena; work = o .work }
   unfolding replayOf
@@ -236,7 +236,7 @@ module _ (a work log : List ℕ) (n : (openOf alone a work) .number ≢ 0) where
     numbers = rw refused-is;
     stopped = rw refused-is;
     at = rw refused-is;
-    arena = rw refused-is (opening-claim alone told-alone .refused a work n .arena);
+    arena = rw refused-is (opening-claim aloneNear .refused a work n .arena);
     buffer = rw refused-is;
   }
 

@@ -1,6 +1,7 @@
 -- The replay of `ReplayExhibited`: its log is the bytes of its records, the row answers it, and the ledger is worked out from records and
 -- answers. Said of any arena with those figures that opens, and the made arena is one.
 use mathlib.Core.Path.{_≡_, refl, sym, ap, _∙_, subst}
+use mathlib.Core.Logic.{inl}
 use mathlib.Core.Bool.{false}
 use mathlib.Core.List.{List, [], _∷_, _++_, map}
 use Prim.Native.Nat.{ℕ, zero, suc, _+_, _*_, _/_, _≤_, _<_}
@@ -9,14 +10,13 @@ use lib.ListN.{length, replicate, length-replicate}
 use Rattle.words.specs.Bytes.{Small, byteWord}
 use Rattle.format.proofs.Below.{below-append, below-replicate}
 use Rattle.layout.specs.Figures.{freshFigures}
-use Rattle.layout.specs.Told.{alone}
+use Rattle.layout.specs.Told.{aloneNear}
 use Rattle.layout.specs.declared.Figures.{Figures}
 use Rattle.machine.specs.calls.Opening.{figuresIn, openOf}
 use Rattle.machine.specs.calls.Reading.{readOf}
 use Rattle.machine.specs.calls.History.{Reply, openedFrom}
 use Rattle.machine.specs.models.Row.{Row, wordByWord, rowReplies, firstRow}
 use Rattle.machine.specs.claims.Exhibit.{exhibitFound, exhibitWork}
-use Rattle.machine.proofs.opening.Described.{told-alone}
 use Rattle.machine.proofs.opening.Opening.{opening-claim}
 use Rattle.machine.proofs.opening.Opens.{opened-figures}
 use Rattle.machine.proofs.exhibit.Run.{made, exhibited}
@@ -89,19 +89,19 @@ ledger-is : (allNoted 133 4 noLines 0 exhibitRecords (0 ∷ (replicate 132 0 ++ 
 unfolding allNoted allLanded rising
 ledger-is = refl
 
-module _ (a work : List ℕ) (small : Small a) (small-work : Small work) (e : (openOf alone a work) .number ≡ 0)
+module _ (a work : List ℕ) (small : Small a) (small-work : Small work) (e : (openOf aloneNear a work) .number ≡ 0)
     (figures : figuresIn a ≡ freshFigures 512 60 4) (room : 64 ≤ length work) where
   abbrev f : Figures
-  f = (openedFrom alone a work) .handle .figures
+  f = (openedFrom aloneNear a work) .handle .figures
 
   abbrev w : List ℕ
-  w = (openOf alone a work) .work
+  w = (openOf aloneNear a work) .work
 
   abbrev first-row : Row
-  first-row = firstRow (openedFrom alone a work)
+  first-row = firstRow (openedFrom aloneNear a work)
 
   figures-are : f ≡ freshFigures 512 60 4
-  figures-are = opened-figures alone told-alone a work e ∙ figures
+  figures-are = opened-figures aloneNear a work e ∙ figures
 
   size-is : f .size ≡ 512
   unfolding freshFigures
@@ -117,7 +117,7 @@ module _ (a work : List ℕ) (small : Small a) (small-work : Small work) (e : (o
 
   work-room : f .blocks ≤ length w
   unfolding freshFigures
-  work-room = rw (figures-are, opening-claim alone told-alone .work a work .size) room
+  work-room = rw (figures-are, opening-claim aloneNear .work a work .size) room
 
   records-are : (logOf exhibitLog) .records ≡ exhibitRecords
   records-are = ap (λ (l : Log). l .records) log-is
@@ -153,16 +153,17 @@ module _ (a work : List ℕ) (small : Small a) (small-work : Small work) (e : (o
 
 pub replay-exhibited : ReplayExhibited
 replay-exhibited =
+    let k = exhibited 16 (inl refl) in
     let u : 64 ≤ length exhibitWork = omega (arith, length-replicate {A = ℕ} 64 0) in
     let z : Small exhibitWork = below-replicate 256 64 0 (omega arith) in
     record {
-      small = exhibited .small;
+      small = k .small;
       small-work = z;
       small-log = log-small exhibitRecords;
-      opens = exhibited .opens;
+      opens = k .opens;
       size = log-length;
-      records = records-are exhibitFound exhibitWork (exhibited .small) z (exhibited .opens) (made .figures) u;
-      numbers = numbers-are exhibitFound exhibitWork (exhibited .small) z (exhibited .opens) (made .figures) u;
-      written = written-is exhibitFound exhibitWork (exhibited .small) z (exhibited .opens) (made .figures) u;
-      words = words-are exhibitFound exhibitWork (exhibited .small) z (exhibited .opens) (made .figures) u;
+      records = records-are exhibitFound exhibitWork (k .small) z (k .opens) (made .figures) u;
+      numbers = numbers-are exhibitFound exhibitWork (k .small) z (k .opens) (made .figures) u;
+      written = written-is exhibitFound exhibitWork (k .small) z (k .opens) (made .figures) u;
+      words = words-are exhibitFound exhibitWork (k .small) z (k .opens) (made .figures) u;
     }

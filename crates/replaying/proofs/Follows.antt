@@ -12,7 +12,7 @@ use Rattle.format.proofs.Tests.{by-bool}
 use Rattle.format.specs.declared.numbers.LaneNo.{LaneNo}
 use Rattle.format.specs.declared.numbers.SectorNo.{SectorNo}
 use Rattle.layout.specs.Figures.{maxSize}
-use Rattle.layout.specs.Told.{alone}
+use Rattle.layout.specs.Told.{aloneNear}
 use Rattle.layout.specs.declared.Figures.{Figures}
 use Rattle.machine.specs.Rules.{answer}
 use Rattle.machine.specs.calls.Opening.{Opening, openOf}
@@ -36,7 +36,6 @@ use Rattle.machine.specs.calls.History.{
   SmallEvent,
 }
 use Rattle.machine.specs.models.Row.{Row, storesOf, wordByWord, rowNumber, rowReply, rowAfter, rowOpenNumber, rowReplyEvent, rowAfterEvent, rowReplies}
-use Rattle.machine.proofs.opening.Described.{told-alone}
 use Rattle.machine.proofs.calls.Packing.{packing-claim}
 use Rattle.machine.proofs.invariant.Histories.{alike-event}
 use Rattle.machine.proofs.row.Events.{RepIn, accepted, event-reply, event-rep}
@@ -67,14 +66,14 @@ pub record Sized (f : Figures) : Type 0 where
 module _ (row₀ : Row) (w : List ℕ) where
   -- where a replay stands
   pub record Stands (f : Figures) (s : Sized f) (x : Point) (row : Row) (k : Ledger) : Type 0 where
-    pub rep : RepIn alone row (stateOf x)
+    pub rep : RepIn aloneNear row (stateOf x)
     pub work : x .work ≡ w
     pub noted : Noted f (s .whole) row₀ row k
 
   -- one record
   record One (f : Figures) (s : Sized f) (i : ℕ) (x : Point) (r : Record) (row : Row) (k : Ledger) : Type 0 where
-    number : answered i x r ≡ (replyEvent alone (stateOf x) (eventOf (f .size) w i r)) .number
-    state : stateOf (ran i x r) ≡ afterEvent alone (stateOf x) (eventOf (f .size) w i r)
+    number : answered i x r ≡ (replyEvent aloneNear (stateOf x) (eventOf (f .size) w i r)) .number
+    state : stateOf (ran i x r) ≡ afterEvent aloneNear (stateOf x) (eventOf (f .size) w i r)
     work : (ran i x r) .work ≡ w
     opens : CutsOpen (r ∷ []) (answered i x r ∷ [])
     noted : Noted f (s .whole) row₀ (rowAfterEvent wordByWord f row (eventOf (f .size) w i r)) (noted (storesOf f) (f .lanes) k i r (answered i x r))
@@ -86,7 +85,7 @@ module _ (row₀ : Row) (w : List ℕ) where
     -- a call answers as the row does
     call-same : (c : Call) → (reply (stateOf x) c) .number ≡ (rowReply f row c) .number
     unfolding rowReplyEvent
-    call-same c = ap (λ (y : Reply). y .number) (event-reply alone told-alone row (stateOf x) (d .rep) (called c))
+    call-same c = ap (λ (y : Reply). y .number) (event-reply aloneNear row (stateOf x) (d .rep) (called c))
 
     start-one : (l : LaneNo) (t : SectorNo) → One f s i x (Start l t) row k
     unfolding rowAfterEvent rowAfter rowReply CutsOpen
@@ -118,10 +117,10 @@ module _ (row₀ : Row) (w : List ℕ) where
     -- an opening is accepted, in the arena and in the row
     module _ (c : Cleared f w) where
       abbrev o : Opening
-      o = openOf alone (x .arena) w
+      o = openOf aloneNear (x .arena) w
 
       open-zero : o .number ≡ 0
-      open-zero = accepted alone told-alone row (stateOf x) (d .rep) w (c .room)
+      open-zero = accepted aloneNear row (stateOf x) (d .rep) w (c .room)
 
       row-zero : rowOpenNumber f (length w) ≡ 0
       unfolding rowOpenNumber answer
@@ -129,11 +128,11 @@ module _ (row₀ : Row) (w : List ℕ) where
 
       open-work : o .work ≡ w
       open-work =
-          ap (λ (y : Reply). y .buffer) (event-reply alone told-alone row (stateOf x) (d .rep) (opened w))
+          ap (λ (y : Reply). y .buffer) (event-reply aloneNear row (stateOf x) (d .rep) (opened w))
           ∙ unfold rowReplyEvent in (rw row-zero (c .same))
 
-      open-state : stateOf (openedPoint o) ≡ afterEvent alone (stateOf x) (opened w)
-      open-state = rw open-zero (ap (λ (h : Handle). record { arena = o .arena; handle = h }) (packing-claim .opened (x .arena) w open-zero))
+      open-state : stateOf (openedPoint o) ≡ afterEvent aloneNear (stateOf x) (opened w)
+      open-state = rw open-zero (ap (λ (h : Handle). record { arena = o .arena; handle = h }) (packing-claim .opened 16 (x .arena) w open-zero))
 
       cut-one : One f s i x Cut row k
       unfolding rowAfterEvent CutsOpen
@@ -173,9 +172,9 @@ module _ (row₀ : Row) (w : List ℕ) where
 
     -- all records, from a point that row₁ stands for
     pub record Followed (i : ℕ) (x : Point) (rs : List Record) (row₁ : Row) (k : Ledger) : Type 0 where
-      pub numbers : answersAll i x rs ≡ map (λ (y : Reply). y .number) (replyEvents alone (stateOf x) (from i rs))
+      pub numbers : answersAll i x rs ≡ map (λ (y : Reply). y .number) (replyEvents aloneNear (stateOf x) (from i rs))
       pub in-row : answersAll i x rs ≡ map (λ (y : Reply). y .number) (rowReplies wordByWord f row₁ (from i rs))
-      pub state : stateOf (runAll i x rs) ≡ runEvents alone (stateOf x) (from i rs)
+      pub state : stateOf (runAll i x rs) ≡ runEvents aloneNear (stateOf x) (from i rs)
       pub cuts : CutsOpen rs (answersAll i x rs)
       pub row : Row
       pub stands : Stands f s (runAll i x rs) row (allNoted (storesOf f) (f .lanes) k i rs (answersAll i x rs))
@@ -184,8 +183,8 @@ module _ (row₀ : Row) (w : List ℕ) where
     -- one record, where the figures are f
     record Next (i : ℕ) (x : Point) (row : Row) (k : Ledger) (r : Record) (y : Figures) (t : Sized y) : Type 0 where
       one : One y t i x r row k
-      reply : replyEvent alone (stateOf x) (eventOf (y .size) w i r) ≡ rowReplyEvent y row (eventOf (y .size) w i r)
-      rep : RepIn alone (rowAfterEvent wordByWord y row (eventOf (y .size) w i r)) (afterEvent alone (stateOf x) (eventOf (y .size) w i r))
+      reply : replyEvent aloneNear (stateOf x) (eventOf (y .size) w i r) ≡ rowReplyEvent y row (eventOf (y .size) w i r)
+      rep : RepIn aloneNear (rowAfterEvent wordByWord y row (eventOf (y .size) w i r)) (afterEvent aloneNear (stateOf x) (eventOf (y .size) w i r))
 
     next-of : (i : ℕ) (x : Point) (row : Row) (k : Ledger) → x .handle .figures ≡ f → Stands f s x row k → i ≤ 8192 → (r : Record) → Fits r
         → Next i x row k r f s
@@ -195,8 +194,8 @@ module _ (row₀ : Row) (w : List ℕ) where
         let event = eventOf (x .handle .figures .size) w i r in
         record {
           one = one x row k i t e v u r p;
-          reply = event-reply alone told-alone row (stateOf x) (e .rep) event;
-          rep = event-rep alone told-alone row (stateOf x) (e .rep) event small;
+          reply = event-reply aloneNear row (stateOf x) (e .rep) event;
+          rep = event-rep aloneNear row (stateOf x) (e .rep) event small;
         })
         s c d (event-small f c i r p)
 
@@ -209,18 +208,18 @@ module _ (row₀ : Row) (w : List ℕ) where
         let q = next-of i x row k g d (omega arith) r (p .0) in
         let a = q .one in
         let row′ = rowAfterEvent wordByWord f row e in
-        let g′ = ap (λ (y : State). y .handle .figures) (a .state) ∙ alike-event alone told-alone (stateOf x) e (d .rep .held) .figures ∙ g in
+        let g′ = ap (λ (y : State). y .handle .figures) (a .state) ∙ alike-event aloneNear (stateOf x) e (d .rep .held) .figures ∙ g in
         let d′ : Stands f s (ran i x r) row′ (noted (storesOf f) (f .lanes) k i r (answered i x r)) = record {
-          rep = subst (λ (y : State). RepIn alone row′ y) (sym (a .state)) (q .rep);
+          rep = subst (λ (y : State). RepIn aloneNear row′ y) (sym (a .state)) (q .rep);
           work = a .work;
           noted = a .noted;
         } in
         let h = follow rs (suc i) (ran i x r) row′ (noted (storesOf f) (f .lanes) k i r (answered i x r)) g′ d′ (p .1) (omega arith) in
         record {
           numbers = ap₂ {C = List ℕ} (λ n ns. n ∷ ns) (a .number)
-              (h .numbers ∙ ap (λ (y : State). map (λ (z : Reply). z .number) (replyEvents alone y (from (suc i) rs))) (a .state));
+              (h .numbers ∙ ap (λ (y : State). map (λ (z : Reply). z .number) (replyEvents aloneNear y (from (suc i) rs))) (a .state));
           in-row = ap₂ {C = List ℕ} (λ n ns. n ∷ ns) (a .number ∙ ap (λ (z : Reply). z .number) (q .reply)) (h .in-row);
-          state = h .state ∙ ap (λ (y : State). runEvents alone y (from (suc i) rs)) (a .state);
+          state = h .state ∙ ap (λ (y : State). runEvents aloneNear y (from (suc i) rs)) (a .state);
           cuts = cuts-more r _ rs _ (a .opens) (h .cuts);
           row = h .row;
           stands = h .stands;

@@ -6,7 +6,7 @@ use Prim.Native.Nat.{ℕ, _≤_, _<_}
 use lib.Dec.{eqb}
 use lib.ListN.{length}
 use borrow.Author.Tests.{lt-leb, le-leb, eqb-true}
-use Rattle.layout.specs.Told.{alone}
+use Rattle.layout.specs.Told.{aloneNear}
 use Rattle.machine.specs.declared.handle.Handle as packed
 use Rattle.machine.specs.calls.Opening.{openOf}
 use Rattle.arena.specs.Calls.{PackedOpening, packedOpening}
@@ -23,11 +23,11 @@ put-nothing (b ∷ bs) = refl
 
 -- an opening that gave this
 module _ (a work log answers : List ℕ) (n count : ℕ) (arena left : List ℕ) (p : packed.Handle)
-    (o : record { number = n; mended = count; arena = arena; handle = p; work = left } ≡ packedOpening (openOf alone a work)) where
-  number : n ≡ (openOf alone a work) .number
+    (o : record { number = n; mended = count; arena = arena; handle = p; work = left } ≡ packedOpening (openOf aloneNear a work)) where
+  number : n ≡ (openOf aloneNear a work) .number
   number = ap (λ (x : PackedOpening). x .number) o
 
-  point : pointAt arena left p ≡ openedPoint (openOf alone a work)
+  point : pointAt arena left p ≡ openedPoint (openOf aloneNear a work)
   point = open-point a work arena left n count p o
 
   -- it is refused

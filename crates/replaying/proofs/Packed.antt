@@ -10,7 +10,7 @@ use lib.ListN.{length}
 use borrow.Author.Tests.{eqb-true}
 use Rattle.format.proofs.Tests.{by-bool}
 use Rattle.layout.specs.Figures.{maxLanes}
-use Rattle.layout.specs.Told.{alone}
+use Rattle.layout.specs.Told.{aloneNear}
 use Rattle.machine.specs.declared.handle.Handle as packed
 use Rattle.machine.specs.state.Handle.{Handle, handleAllowed}
 use Rattle.machine.specs.state.Packed.{unpacked, repacked}
@@ -58,6 +58,6 @@ module _ (a : List ℕ) (p : packed.Handle) (room : length (p .lanes) ≡ maxLan
   step-point l buffer = outcome-point p q arena work n _ (step-stands a p room l buffer)
 
 pub open-point : (a work arena left : List ℕ) (n m : ℕ) (q : packed.Handle)
-    → record { number = n; mended = m; arena = arena; handle = q; work = left } ≡ packedOpening (openOf alone a work)
-    → pointAt arena left q ≡ openedPoint (openOf alone a work)
+    → record { number = n; mended = m; arena = arena; handle = q; work = left } ≡ packedOpening (openOf aloneNear a work)
+    → pointAt arena left q ≡ openedPoint (openOf aloneNear a work)
 open-point a work arena left n m q e = ap (λ (x : PackedOpening). pointAt (x .arena) (x .work) (x .handle)) e

@@ -7,7 +7,7 @@ use mathlib.Core.List.{List, [], _∷_, map}
 use Prim.Native.Nat.{ℕ, suc, _+_, _*_, _/_, _≤_, _<_}
 use lib.ListN.{length, getD}
 use Rattle.words.specs.Bytes.{Small, byteWord}
-use Rattle.layout.specs.Told.{alone}
+use Rattle.layout.specs.Told.{aloneNear}
 use Rattle.machine.specs.calls.Opening.{figuresIn, openOf}
 use Rattle.machine.specs.calls.Reading.{Read, readOf}
 use Rattle.machine.specs.calls.History.{start, step, read, State, Reply, Event, called, opened, replyEvents, runEvents, openedFrom}
@@ -73,10 +73,10 @@ ReadsBy x y sectors = (s : ℕ) (buffer : List ℕ) → s < x .handle .figures .
 module _ (a work log : List ℕ) where
   -- the first opening, with the work buffer as it left it, the records that ran and what they answered
   abbrev pub first : State
-  first = openedFrom alone a work
+  first = openedFrom aloneNear a work
 
   abbrev pub cleared : List ℕ
-  cleared = (openOf alone a work) .work
+  cleared = (openOf aloneNear a work) .work
 
   abbrev pub ranRecords : List Record
   ranRecords = (logOf log) .records
@@ -88,11 +88,11 @@ module _ (a work log : List ℕ) where
   events = eventsOf (first .handle .figures .size) cleared 0 ranRecords
 
   abbrev pub last : State
-  last = runEvents alone first events
+  last = runEvents aloneNear first events
 
   -- what the records answer, as calls and openings after the first
   abbrev pub replies : List ℕ
-  replies = map (λ (r : Reply). r .number) (replyEvents alone first events)
+  replies = map (λ (r : Reply). r .number) (replyEvents aloneNear first events)
 
   abbrev pub stores : ℕ
   stores = first .handle .figures .size / 4 + 5
@@ -113,21 +113,21 @@ module _ (a work log : List ℕ) where
     -- its sectors, through the latest handle
     pub sectors : ReadsBy first last (ledger .sector)
     -- and opened again with any work buffer that is long enough: the writes that lack one store are finished
-    pub opens : (room : List ℕ) → (figuresIn a) .blocks ≤ length room → (openOf alone (last .arena) room) .number ≡ 0
+    pub opens : (room : List ℕ) → (figuresIn a) .blocks ≤ length room → (openOf aloneNear (last .arena) room) .number ≡ 0
     pub reopened : (room : List ℕ) → Small room → (figuresIn a) .blocks ≤ length room
-        → ReadsBy first (openedFrom alone (last .arena) room) ((cutNoted stores (first .handle .figures .lanes) ledger) .sector)
+        → ReadsBy first (openedFrom aloneNear (last .arena) room) ((cutNoted stores (first .handle .figures .lanes) ledger) .sector)
 
 -- where the first opening is refused no record runs, and the arena is as it was
 pub record RefusedFor (a work log : List ℕ) : Type 0 where
-  pub first : (replayOf a work log) .first ≡ (openOf alone a work) .number
+  pub first : (replayOf a work log) .first ≡ (openOf aloneNear a work) .number
   pub numbers : (replayOf a work log) .numbers ≡ []
   pub stopped : (replayOf a work log) .stopped ≡ false
   pub at : (replayOf a work log) .at ≡ 0
   pub arena : (replayOf a work log) .arena ≡ a
-  pub buffer : (replayOf a work log) .work ≡ (openOf alone a work) .work
+  pub buffer : (replayOf a work log) .work ≡ (openOf aloneNear a work) .work
 
 -- any lent arena, any lent work buffer and any lent log
 pub record ReplayClaim : Type 0 where
-  pub opened : (a work log : List ℕ) → Small a → Small work → Small log → (openOf alone a work) .number ≡ 0
+  pub opened : (a work log : List ℕ) → Small a → Small work → Small log → (openOf aloneNear a work) .number ≡ 0
       → ((replayOf a work log) .first ≡ 0) × ReplayFor a work log
-  pub refused : (a work log : List ℕ) → (openOf alone a work) .number ≢ 0 → RefusedFor a work log
+  pub refused : (a work log : List ℕ) → (openOf aloneNear a work) .number ≢ 0 → RefusedFor a work log

@@ -5,7 +5,7 @@ use mathlib.Core.List.{List, [], _∷_, _++_}
 use Prim.Native.Nat.{ℕ, _+_, _*_, _<_}
 use lib.ListN.{length, replicate}
 use Rattle.words.specs.Bytes.{Small, byteWord}
-use Rattle.layout.specs.Told.{alone}
+use Rattle.layout.specs.Told.{aloneNear}
 use Rattle.machine.specs.calls.Opening.{openOf}
 use Rattle.machine.specs.calls.Reading.{readOf}
 use Rattle.machine.specs.claims.Exhibit.{exhibitFound, exhibitWork}
@@ -31,7 +31,7 @@ pub record ReplayExhibited : Type 0 where
   pub small : Small exhibitFound
   pub small-work : Small exhibitWork
   pub small-log : Small exhibitLog
-  pub opens : (openOf alone exhibitFound exhibitWork) .number ≡ 0
+  pub opens : (openOf aloneNear exhibitFound exhibitWork) .number ≡ 0
   -- its 135 records and their answers: the refused start is 13
   pub size : length exhibitLog ≡ 816
   pub records : (logOf exhibitLog) .records ≡ exhibitRecords

@@ -6,7 +6,7 @@ use lib.Dec.{eqb}
 use lib.ListN.{take, replicate}
 use Rattle.words.specs.Word.{putWords}
 use Rattle.layout.specs.Figures.{maxSize}
-use Rattle.layout.specs.Told.{alone}
+use Rattle.layout.specs.Told.{aloneNear}
 use Rattle.machine.specs.state.Handle.{Handle}
 use Rattle.machine.specs.state.Packed.{unpacked, packedUp}
 use Rattle.machine.specs.calls.Opening.{Opening, openOf}
@@ -49,14 +49,14 @@ outcomePoint work o = record { arena = o .arena; work = work; handle = o .handle
 abbrev pub ran : ℕ → Point → Record → Point
 ran i x (Start l s) = outcomePoint (x .work) (startOf (x .arena) (x .handle) (l .0) (s .0))
 ran i x (Step l) = outcomePoint (x .work) (stepOf (x .arena) (x .handle) (l .0) (stepBytes (x .handle .figures .size) i))
-ran i x Cut = openedPoint (openOf alone (x .arena) (x .work))
+ran i x Cut = openedPoint (openOf aloneNear (x .arena) (x .work))
 ran i x Refused = x
 
 -- what record i answers
 abbrev pub answered : ℕ → Point → Record → ℕ
 answered i x (Start l s) = (startOf (x .arena) (x .handle) (l .0) (s .0)) .number
 answered i x (Step l) = (stepOf (x .arena) (x .handle) (l .0) (stepBytes (x .handle .figures .size) i)) .number
-answered i x Cut = (openOf alone (x .arena) (x .work)) .number
+answered i x Cut = (openOf aloneNear (x .arena) (x .work)) .number
 answered i x Refused = 20
 
 -- ---- all records, from index i on; a refused one does not end the replay
@@ -97,6 +97,6 @@ replayFrom log x =
 -- no record runs where the first opening is refused
 unfoldable pub replayOf : List ℕ → List ℕ → List ℕ → Replay
 replayOf a work log =
-    let o = openOf alone a work in
+    let o = openOf aloneNear a work in
     cond (eqb (o .number) 0) (replayFrom (logOf log) (openedPoint o))
     (record { first = o .number; numbers = []; stopped = false; at = 0; arena = o .arena; work = o .work })

@@ -1,6 +1,7 @@
 // Replays a run log on a lent arena: the first opening, then one call of the library for each record that the log's reader gives.
 use crate::run::run_record;
 use arena::open::open;
+use layout::NEAR;
 use machine::answer::Answer;
 use machine::handle::Handle;
 use runlog::reader::take;
@@ -82,12 +83,12 @@ fn run_records(
     }
 }
 
-// Replays a log: opens the arena, and runs the log's records on it. A log of more than 8,192 bytes is refused at 0.
+// Replays a log: opens the arena in the near layout, and runs the log's records on it. A log of more than 8,192 bytes is refused at 0.
 pub fn replay(arena: &mut [u8], work: &mut [u8], log: &[u8], answers: &mut [u8]) -> Replayed
     ensures { λ r. ⌜ gave r (now (arena .exit)) (now (work .exit)) (now (answers .exit))
         ≡ into (replayOf (now (arena .entry)) (now (work .entry)) (now (log .entry))) (now (answers .entry)) ⌝ }
 {
-    let opened = open(arena, work);
+    let opened = open(arena, work, NEAR);
     let first = opened.answer;
     if !first.is_done() {
         return Replayed {

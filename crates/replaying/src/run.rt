@@ -3,6 +3,7 @@ use arena::open::open;
 use arena::start;
 use arena::step;
 use format::numbers::LaneNo;
+use layout::NEAR;
 use machine::answer::Answer;
 use machine::handle::Handle;
 use runlog::record::Record;
@@ -67,7 +68,7 @@ pub fn run_record(
         Record::Start(lane, sector) => start(&arena[..], h, lane, sector),
         Record::Step(lane) => run_step(arena, h, lane, index),
         Record::Cut => {
-            let opened = open(arena, work);
+            let opened = open(arena, work, NEAR);
             let answer = opened.answer;
             let handle = opened.handle;
             Stepped {

@@ -7,13 +7,13 @@ use lib.Dec.{eqb}
 use lib.ListN.{length, drop}
 use borrow.Author.Tests.{lt-ltb, le-ltb, eqb-true}
 use Rattle.layout.specs.Figures.{maxLanes}
-use Rattle.layout.specs.Told.{alone}
+use Rattle.layout.specs.Told.{aloneNear}
 use Rattle.machine.specs.state.Handle.{Handle}
 use Rattle.machine.specs.state.Packed.{unpacked}
 use Rattle.machine.specs.calls.Opening.{Opening, openOf}
 use Rattle.machine.specs.declared.handle.Handle as packed
 use Rattle.machine.proofs.calls.Packing.{packing-claim}
-use Rattle.machine.proofs.opening.Described.{told-alone, described-figures}
+use Rattle.machine.proofs.opening.Described.{described-figures}
 use Rattle.machine.proofs.opening.Opens.{open-zero, opened-figures}
 use Rattle.arena.specs.Calls.{PackedOpening, packedOpening}
 use Rattle.text.specs.Text.{refusedText, openedText}
@@ -27,9 +27,9 @@ too-long a before after r u e f = rw (lt-ltb _ _ u) (record { count = e; buffer 
 -- an opening that gave this
 module _ (a input left : List ℕ) (n count : ℕ) (p : packed.Handle) (u : length a ≤ maxInput)
     (o : record { number = n; mended = count; arena = input; handle = p; work = left }
-    ≡ packedOpening (openOf alone a workBuffer)) where
+    ≡ packedOpening (openOf aloneNear a workBuffer)) where
   abbrev given : Opening
-  given = openOf alone a workBuffer
+  given = openOf aloneNear a workBuffer
 
   number : n ≡ given .number
   number = ap (λ (x : PackedOpening). x .number) o
@@ -50,7 +50,7 @@ module _ (a input left : List ℕ) (n count : ℕ) (p : packed.Handle) (u : leng
 
     -- the array stands for the handle
     handle : unpacked p ≡ given .handle
-    handle = ap (λ (x : PackedOpening). unpacked (x .handle)) o ∙ packing-claim .opened a workBuffer zero
+    handle = ap (λ (x : PackedOpening). unpacked (x .handle)) o ∙ packing-claim .opened 16 a workBuffer zero
 
     pub opened-report : (before after : List ℕ) (r : ℕ) → r ≡ length (openedText (unpacked p) count)
         → after ≡ openedText (unpacked p) count ++ drop (length (openedText (unpacked p) count)) before
@@ -62,6 +62,6 @@ module _ (a input left : List ℕ) (n count : ℕ) (p : packed.Handle) (u : leng
     -- an opened arena has at most 16 lanes
     pub few-lanes : p .figures .lanes ≤ maxLanes
     few-lanes =
-        let f = ap (λ (h : Handle). h .figures) handle ∙ opened-figures alone told-alone a workBuffer zero in
-        let k = open-zero alone told-alone a (length workBuffer) (unfold openOf in zero) in
-        rw f (described-figures alone told-alone a (k .0 .info) .few-lanes)
+        let f = ap (λ (h : Handle). h .figures) handle ∙ opened-figures aloneNear a workBuffer zero in
+        let k = open-zero aloneNear a (length workBuffer) (unfold openOf in zero) in
+        rw f (described-figures aloneNear a (k .0 .info) .few-lanes)

@@ -4,6 +4,7 @@ use Prim.Native.Nat.{_*_, _≤_}
 use native.Mathlib.Omega.{arith}
 use lib.ListN.{length}
 use borrow.Author.Tests.{leb-true}
+use Rattle.layout.specs.Told.{aloneNear}
 use Rattle.machine.proofs.opening.Room.{room-suffices}
 use Rattle.report.specs.Report.{workBuffer}
 use Rattle.report.specs.Claims.{WorkSuffices}
@@ -12,4 +13,4 @@ enough : 65536 ≤ 512 * length workBuffer
 enough = leb-true 65536 (512 * length workBuffer) refl
 
 pub work-suffices : WorkSuffices
-work-suffices a h = room-suffices a workBuffer (omega (arith, enough))
+work-suffices a h = room-suffices aloneNear a workBuffer (omega (arith, enough))

@@ -5,7 +5,7 @@ use mathlib.Core.List.{List, _++_}
 use Prim.Native.Nat.{ℕ}
 use lib.Dec.{eqb, ltb}
 use lib.ListN.{length, drop, replicate}
-use Rattle.layout.specs.Told.{alone}
+use Rattle.layout.specs.Told.{aloneNear}
 use Rattle.machine.specs.calls.Opening.{Opening, openOf}
 use Rattle.text.specs.Text.{refusedText, openedText}
 
@@ -30,7 +30,7 @@ maxInput = 65536
 unfoldable pub reportOf : List ℕ → Report
 reportOf a =
     cond (ltb maxInput (length a)) (record { text = refusedText 1; input = a })
-    (record { text = textOf (openOf alone a workBuffer); input = (openOf alone a workBuffer) .arena })
+    (record { text = textOf (openOf aloneNear a workBuffer); input = (openOf aloneNear a workBuffer) .arena })
 
 -- what a report leaves: so many bytes of text at the start of the buffer, the rest of it unchanged, and the input
 pub record Reported (r : Report) (bytes : ℕ) (input before after : List ℕ) : Type 0 where

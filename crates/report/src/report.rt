@@ -1,5 +1,6 @@
 // The report on an arena, as text in a lent buffer.
 use arena::open::open;
+use layout::NEAR;
 use text::put_opened;
 use text::put_refused;
 ghost use Rattle.io.specs.Counts.{Counts};
@@ -17,7 +18,7 @@ pub fn report(input: &mut [u8], out: &mut [u8; 1024]) -> usize
         return put_refused(out, 1);
     }
     let mut work = [0u8; 128];
-    let opened = open(input, &mut work);
+    let opened = open(input, &mut work, NEAR);
     let answer = opened.answer;
     if !answer.is_done() {
         return put_refused(out, answer.number());

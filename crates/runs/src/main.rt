@@ -1,4 +1,4 @@
-// Runs cases 9 and 10 of document 01. Each store of case 9 is found by comparing the arena before it and after it.
+// Runs case 9 of document 01 in both layouts, and case 10. Each store of case 9 is found by comparing the arena before it and after it.
 use arena::make;
 use arena::open::open;
 use arena::read;
@@ -68,17 +68,17 @@ fn show_stepped(text: &[u8], stepped: Stepped) {
     show_answer(text, answer);
 }
 
-// Makes the arena of the cases and opens it.
-fn fresh(arena: &mut [u8]) -> Handle {
+// Makes the arena of the cases and opens it in a layout.
+fn fresh(arena: &mut [u8], layout: u32) -> Handle {
     make(arena, 512, 60, 4, b"first identifier", b"other identifier");
     let mut work = [0u8; 64];
-    let opened = open(arena, &mut work);
+    let opened = open(arena, &mut work, layout);
     opened.handle
 }
 
 // Makes it, opens it and starts a write of sector 7 on lane 0.
-fn begun(arena: &mut [u8]) -> Handle {
-    let h = fresh(arena);
+fn begun(arena: &mut [u8], layout: u32) -> Handle {
+    let h = fresh(arena, layout);
     let started = start(&arena[..], h, LaneNo(0), SectorNo(7));
     started.handle
 }
@@ -160,9 +160,9 @@ fn show_sector(arena: &Arena, h: Handle, bytes: &[u8]) {
 }
 
 // Opens the arena that a cut left and writes the answer, the count of mended lanes and how sector 7 then reads.
-fn show_opened(arena: &mut Arena, bytes: &[u8]) {
+fn show_opened(arena: &mut Arena, layout: u32, bytes: &[u8]) {
     let mut work = [0u8; 64];
-    let opened = open(arena, &mut work);
+    let opened = open(arena, &mut work, layout);
     let answer = opened.answer;
     show(b": number ", answer.number() as u64);
     show(b" mended ", opened.mended as u64);
@@ -170,25 +170,26 @@ fn show_opened(arena: &mut Arena, bytes: &[u8]) {
 }
 
 // Case 9, cut after k stores.
-fn show_cut(k: u32) {
+fn show_cut(layout: u32, k: u32) {
     let bytes = sector();
     let mut arena = room();
-    let h = begun(&mut arena);
+    let h = begun(&mut arena, layout);
     make_stores(&mut arena, h, &bytes, k);
     show(b"cut after ", k as u64);
-    show_opened(&mut arena, &bytes);
+    show_opened(&mut arena, layout, &bytes);
 }
 
-// Case 9: a write of sector 7 on lane 0, store by store, and three cuts of it.
-fn case_nine() {
+// Case 9 in a layout: a write of sector 7 on lane 0, store by store, and three cuts of it.
+fn case_nine(layout: u32) {
     let bytes = sector();
     let mut arena = room();
-    let h = begun(&mut arena);
-    put(b"case 9\n");
+    let h = begun(&mut arena, layout);
+    show(b"case 9 in layout ", layout as u64);
+    put(b"\n");
     show_stores(&mut arena, h, &bytes);
-    show_cut(131);
-    show_cut(132);
-    show_cut(133);
+    show_cut(layout, 131);
+    show_cut(layout, 132);
+    show_cut(layout, 133);
 }
 
 // Case 10: the last sector and the one past it.
@@ -222,7 +223,7 @@ fn show_short(arena: &mut [u8], h: Handle) {
 
 // Opens an arena with a work buffer and writes the answer.
 fn show_open(text: &[u8], arena: &mut [u8], work: &mut [u8]) {
-    let opened = open(arena, work);
+    let opened = open(arena, work, 16);
     let answer = opened.answer;
     show_answer(text, answer);
 }
@@ -239,7 +240,7 @@ fn show_openings(arena: &mut [u8]) {
 fn case_ten() {
     let mut buffer = sector();
     let mut arena = room();
-    let h = fresh(&mut arena);
+    let h = fresh(&mut arena, 16);
     put(b"case 10\n");
     show_sectors(&arena, h, &mut buffer);
     show_lanes(&mut arena, h, &buffer);
@@ -248,6 +249,7 @@ fn case_ten() {
 }
 
 fn main() {
-    case_nine();
+    case_nine(16);
+    case_nine(32);
     case_ten();
 }

@@ -5,7 +5,6 @@ use format::numbers::SectorNo;
 use lanes::map_block;
 use lanes::map_word;
 use layout::Figures;
-use layout::alone;
 use machine::answer::Answer;
 use machine::handle::Handle;
 use machine::handle::handle_allowed;
@@ -20,7 +19,6 @@ ghost use lib.Dec.{eqb};
 ghost use Rattle.layout.specs.Figures.{maxLanes, maxSize};
 ghost use Rattle.layout.specs.Place.{layoutOf};
 ghost use Rattle.layout.specs.Fit.{Fit};
-ghost use Rattle.layout.specs.Told.{alone};
 ghost use Rattle.machine.specs.state.Answer.{numberOf};
 ghost use Rattle.machine.specs.state.Flog.{mapBlock};
 ghost use Rattle.machine.specs.state.Handle.{laneAt, laidOut, withLane};
@@ -111,7 +109,7 @@ fn judge_write(arena: &[u8], h: Handle, lane: LaneNo, sector: SectorNo, fits: bo
 
 // A lane's record with a write to a sector begun.
 fn begun(arena: &[u8], h: Handle, lane: LaneNo, sector: SectorNo) -> Lane
-    requires { ⌜ Fit (alone .distance) (h .figures) (length (now arena)) ⌝ }
+    requires { ⌜ Fit (h .distance) (h .figures) (length (now arena)) ⌝ }
     requires { ⌜ (lane .0 < h .figures .lanes) × (sector .0 < h .figures .sectors) ⌝ }
     ensures { λ r. ⌜ r ≡ startedLane (laneAt (unpacked h .lanes) (lane .0)) (sector .0)
         (mapBlock (laidOut (unpacked h)) (now (arena .entry)) (sector .0)) ⌝ }
@@ -189,7 +187,7 @@ pub fn step(arena: &mut [u8], h: Handle, lane: LaneNo, buffer: &[u8]) -> Stepped
     let f = h.figures;
     let i = lane.0 as usize;
     let r = h.lanes[i];
-    put_store(arena, f, alone().distance, lane, r, buffer, r.made);
+    put_store(arena, f, h.distance, lane, r, buffer, r.made);
     let after = moved(f, r);
     let next = with_lane(h, lane, after);
     Stepped {
@@ -212,7 +210,7 @@ pub fn write(arena: &mut [u8], h: Handle, lane: LaneNo, sector: SectorNo, buffer
         };
     }
     let r = begun(arena, h, lane, sector);
-    put_stores(arena, h.figures, alone().distance, lane, r, buffer);
+    put_stores(arena, h.figures, h.distance, lane, r, buffer);
     let done = r.finished();
     let next = with_lane(h, lane, done);
     Stepped {

@@ -1,4 +1,4 @@
-/* What every C test uses: checks that say where they failed, little-endian words, patterns and the checksum of an info block. */
+/* What every C test uses: checks that say where they failed, little-endian words, patterns, the checksum of an info block, and the layout. */
 #ifndef CHECK_H
 #define CHECK_H
 
@@ -47,6 +47,28 @@ static inline void put32(uint8_t *at, uint32_t value)
 static inline uint32_t get32(const uint8_t *at)
 {
     return (uint32_t)get_bytes(at, 4);
+}
+
+/* The layout in which a test opens its arenas, the other one, and numbers that are none. */
+static uint32_t layout = BTT_LAYOUT_NEAR;
+static const uint32_t layouts[] = {BTT_LAYOUT_NEAR, BTT_LAYOUT_FAR};
+static const uint32_t no_layouts[] = {0, 1, 15, 17, 31, 33, 48, 64, 0x10010, 0x20000000, 0xFFFFFFFF};
+
+static inline uint32_t other_layout(void)
+{
+    return layouts[layout == layouts[0]];
+}
+
+/* Whether a byte of a lane's 64, from 0, is in neither half. */
+static inline int is_padding(size_t at)
+{
+    return layout == BTT_LAYOUT_NEAR ? at >= 32 : at % 32 >= 16;
+}
+
+/* The byte of a lane's 64 that stands for one of layout 16: there bytes 16 to 31 and bytes 32 to 47 change places in layout 32. */
+static inline size_t lane_byte(size_t at)
+{
+    return layout == BTT_LAYOUT_FAR && at >= 16 && at < 48 ? at ^ 48 : at;
 }
 
 /* Bytes of their own for each seed. */

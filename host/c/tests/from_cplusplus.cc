@@ -10,7 +10,11 @@ int main()
     btt_lane record;
 
     btt_info_block(NULL, 0, &offset, &length);
-    if (offset != 0 || length != 0 || btt_open(none, 0, none, 0, &handle, &mended) != BTT_WRONG_LENGTH || mended != 0) {
+    if (offset != 0 || length != 0 || btt_open(none, 0, none, 0, BTT_LAYOUT_NEAR, &handle, &mended) != BTT_WRONG_LENGTH || mended != 0) {
+        return 1;
+    }
+    if (btt_cut_open(none, 0, none, 0, BTT_LAYOUT_FAR, 1, &mended) != BTT_WRONG_LENGTH
+        || btt_open(none, 0, none, 0, 48, &handle, &mended) != BTT_BAD_HANDLE) {
         return 1;
     }
     if (btt_replay(none, 0, none, 0, NULL, 0, NULL, 0, &offset, &length) != BTT_WRONG_LENGTH || btt_answer_text(BTT_BAD_RECORD)[0] == '\0') {

@@ -1,6 +1,6 @@
 /*
- * Arenas of 16 MiB, the largest there are, of both sector sizes and 16 lanes: every sector written on the lanes in turn, then rounds of
- * writes of which some are cut, with an opening after each round and every sector read.
+ * Arenas of 16 MiB, the largest there are, of both sector sizes and 16 lanes, in both layouts: every sector written on the lanes in turn,
+ * then rounds of writes of which some are cut, with an opening after each round and every sector read.
  */
 #include "check.h"
 
@@ -24,7 +24,7 @@ static void open_arena(uint32_t expected)
 {
     uint32_t mended;
 
-    CHECK(btt_open(arena, BTT_MAX_ARENA, work, sizeof work, &handle, &mended) == 0);
+    CHECK(btt_open(arena, BTT_MAX_ARENA, work, sizeof work, layout, &handle, &mended) == 0);
     CHECK(mended == expected && handle.lanes == LANES);
 }
 
@@ -82,11 +82,12 @@ static void sloppy_ends(void)
 
     CHECK(*padding == 0);
     put32(word, 1);
-    CHECK(btt_open(arena, BTT_MAX_ARENA, work, sizeof work, &handle, &mended) == 18 && get32(word) == 1);
+    CHECK(btt_open(arena, BTT_MAX_ARENA, work, sizeof work, layout, &handle, &mended) == 18 && get32(word) == 1);
     put32(word, found);
     *padding = 1;
-    CHECK(btt_open(arena, BTT_MAX_ARENA, work, sizeof work, &handle, &mended) == 18 && *padding == 1);
+    CHECK(btt_open(arena, BTT_MAX_ARENA, work, sizeof work, layout, &handle, &mended) == 18 && *padding == 1);
     *padding = 0;
+    CHECK(btt_open(arena, BTT_MAX_ARENA, work, sizeof work, other_layout(), &handle, &mended) == 18);
     open_arena(0);
 }
 
@@ -125,8 +126,11 @@ int main(void)
     arena = malloc(BTT_MAX_ARENA);
     CHECK(arena != NULL);
     memset(arena, 0xA5, BTT_MAX_ARENA);
-    try_size(512, 32472);
-    try_size(4096, 4073);
+    for (size_t i = 0; i < COUNT(layouts); i++) {
+        layout = layouts[i];
+        try_size(512, 32472);
+        try_size(4096, 4073);
+    }
     free(arena);
     printf("large_arena: 16 MiB, %u writes, %lu checks\n", (unsigned)last_version, checks);
     return 0;

@@ -147,12 +147,12 @@ static inline uint32_t info_block(void)
 
 static inline uint32_t open_arena(void)
 {
-    return btt_open(SLICE(ARENA), SLICE(WORK), handle, (uint32_t *)(void *)lent[MENDED].at);
+    return btt_open(SLICE(ARENA), SLICE(WORK), layout, handle, (uint32_t *)(void *)lent[MENDED].at);
 }
 
 static inline uint32_t cut_open(uint32_t k)
 {
-    return btt_cut_open(SLICE(ARENA), SLICE(WORK), k, (uint32_t *)(void *)lent[MENDED].at);
+    return btt_cut_open(SLICE(ARENA), SLICE(WORK), layout, k, (uint32_t *)(void *)lent[MENDED].at);
 }
 
 static inline uint32_t read_sector(uint32_t sector)
@@ -215,7 +215,7 @@ static inline void fresh(uint32_t size, uint32_t sectors, uint32_t lanes)
     lend(STOPPED, 8);
     CALL(0, ONLY(ARENA), make(size, sectors, lanes));
     CALL(0, ONLY(WORK) | ONLY(HANDLE) | ONLY(MENDED), open_arena());
-    CHECK(mended() == 0);
+    CHECK(mended() == 0 && handle->layout == layout);
 }
 
 /* The arena of case 5: its figures and where its parts start. */
@@ -232,18 +232,29 @@ static inline uint8_t *map_word(uint32_t sector)
     return arena + MAP + 4 * sector;
 }
 
+/* A byte offset in that arena that is told for layout 16, in the layout of the test. */
+static inline size_t placed(size_t at)
+{
+    return at >= FLOG && at < FLOG + 64 * LANES ? at - at % 64 + lane_byte(at % 64) : at;
+}
+
 /* What an accepted opening, and an accepted step or whole write, may change. */
 #define OPENED (ONLY(WORK) | ONLY(HANDLE) | ONLY(MENDED))
 #define STEPPED (ONLY(ARENA) | ONLY(HANDLE))
 
 typedef void (*test)(void);
 
-/* Runs the tests with the lent parts at the beginning and at the end of their pages, and says which answers there were. */
-static int run(const char *name, const test *tests, size_t count)
+/*
+ * Runs the tests in so many of the layouts, with the lent parts at the beginning and at the end of their pages, and says which answers
+ * there were.
+ */
+static int run(const char *name, const test *tests, size_t count, size_t in_layouts)
 {
     signal(SIGSEGV, on_touch);
-    for (ends_at_page = 0; ends_at_page < 2; ends_at_page++) {
+    for (size_t round = 0; round < 2 * in_layouts; round++) {
+        ends_at_page = round % 2;
         for (size_t i = 0; i < count; i++) {
+            layout = layouts[round / 2];
             tests[i]();
         }
     }

@@ -14,7 +14,7 @@ sys.path.insert(0, str(TOP / "tests"))
 import library  # noqa: E402
 OUT = TOP / "target" / "host-c"
 LISTING = OUT / "instructions.txt"
-LIMIT = 60
+LIMIT = 120
 ANSWERS = set(range(17)) | {18, 20}
 
 EXAMPLE = """\

@@ -1,6 +1,7 @@
 /*
  * The order and the width of the stores to the arena in the compiled library: a step is one store of 4 bytes, an opening one for each pending
- * lane in rising order, a whole write its data and then five of 4 bytes; nothing else stores, and no refused call does.
+ * lane in rising order, a whole write its data and then five of 4 bytes; nothing else stores, and no refused call does. All of it is watched
+ * in both layouts.
  *
  * Asked for a file, the program writes there the address of each instruction of its own that ran while it watched, and which of them stored
  * to the arena, for machine_code.py to look up.
@@ -47,7 +48,7 @@ static void fresh(uint32_t size, uint32_t sectors, uint32_t lanes)
     pattern(arena, length, 2);
     CHECK(btt_make(arena, length, size, sectors, lanes, buffer, 16, buffer + 16, 16) == 0);
     tracing = 0;
-    WATCHED(0, btt_open(arena, length, work, sectors + lanes, &handle, &mended));
+    WATCHED(0, btt_open(arena, length, work, sectors + lanes, layout, &handle, &mended));
     CHECK(made == 0 && mended == 0);
 }
 
@@ -67,7 +68,7 @@ static uint64_t place(const struct btt_lane *r, uint32_t lane, uint32_t k)
     if (k < words) {
         return handle.data + (uint64_t)r->block * handle.size + 4 * k;
     }
-    return k < words + 4 ? handle.flog + 64 * lane + 16 * r->half + 4 * (k - words) : handle.map + 4 * r->sector;
+    return k < words + 4 ? handle.flog + 64 * lane + layout * r->half + 4 * (k - words) : handle.map + 4 * r->sector;
 }
 
 /* The first stores of a write by steps: a start stores nothing, a step one word. */
@@ -136,9 +137,9 @@ static void watch_mending(uint32_t size, uint32_t sectors, uint32_t lanes)
         tracing = k % 2;
         memcpy(arena, pending, length);
         if (k <= lanes) {
-            WATCHED(0, btt_cut_open(arena, length, work, blocks, k, &mended));
+            WATCHED(0, btt_cut_open(arena, length, work, blocks, layout, k, &mended));
         } else {
-            WATCHED(0, btt_open(arena, length, work, blocks, &handle, &mended));
+            WATCHED(0, btt_open(arena, length, work, blocks, layout, &handle, &mended));
         }
         CHECK(mended == lanes - (lanes + 2) / 4 && made == (k < mended ? k : mended));
         for (uint32_t lane = 0; i < made; lane++) {
@@ -152,6 +153,7 @@ static void watch_mending(uint32_t size, uint32_t sectors, uint32_t lanes)
 /* A call that must answer so and store nothing, not even the bytes that are there already. */
 #define STORES_NOTHING(want, call) do { WATCHED(want, call); CHECK(made == 0); } while (0)
 
+/* Openings of an arena in which a lane is pending; offsets from the flog's start on are those of layout 16. */
 static void watch_refused_openings(void)
 {
     static const struct {
@@ -164,22 +166,38 @@ static void watch_refused_openings(void)
     };
 
     for (size_t i = 0; i < COUNT(damage); i++) {
+        size_t at = damage[i].at;
+
         fresh(512, 60, 4);
         lack_map_word(1, 7);
-        put32(arena + damage[i].at, damage[i].value);
+        put32(arena + (at < 40960 ? at : at - at % 64 + lane_byte(at % 64)), damage[i].value);
         seal(arena);
         tracing = 1;
-        STORES_NOTHING(damage[i].answer, btt_open(arena, length, work, 64, &handle, &mended));
-        STORES_NOTHING(damage[i].answer, btt_cut_open(arena, length, work, 64, 4, &mended));
+        STORES_NOTHING(damage[i].answer, btt_open(arena, length, work, 64, layout, &handle, &mended));
+        STORES_NOTHING(damage[i].answer, btt_cut_open(arena, length, work, 64, layout, 4, &mended));
     }
     fresh(512, 60, 4);
     tracing = 1;
-    STORES_NOTHING(5, btt_open(arena, length, work, 63, &handle, &mended));
+    STORES_NOTHING(5, btt_open(arena, length, work, 63, layout, &handle, &mended));
     arena[16] ^= 1;
-    STORES_NOTHING(0, btt_open(arena, length, work, 64, &handle, &mended));
+    STORES_NOTHING(0, btt_open(arena, length, work, 64, layout, &handle, &mended));
     arena[length - 16] ^= 1;
-    STORES_NOTHING(2, btt_open(arena, length, work, 64, &handle, &mended));
-    STORES_NOTHING(1, btt_open(arena, length - 4, work, 64, &handle, &mended));
+    STORES_NOTHING(2, btt_open(arena, length, work, 64, layout, &handle, &mended));
+    STORES_NOTHING(1, btt_open(arena, length - 4, work, 64, layout, &handle, &mended));
+}
+
+/* The same told no layout, and the other one, in which the pending lane's half is padding. */
+static void watch_refused_layouts(void)
+{
+    fresh(512, 60, 4);
+    lack_map_word(1, 7);
+    tracing = 1;
+    for (size_t i = 0; i < COUNT(no_layouts); i++) {
+        STORES_NOTHING(16, btt_open(arena, length, work, 64, no_layouts[i], &handle, &mended));
+        STORES_NOTHING(16, btt_cut_open(arena, length, work, 64, no_layouts[i], 4, &mended));
+    }
+    STORES_NOTHING(18, btt_open(arena, length, work, 64, other_layout(), &handle, &mended));
+    STORES_NOTHING(18, btt_cut_open(arena, length, work, 64, other_layout(), 4, &mended));
 }
 
 static void watch_other_calls(void)
@@ -212,13 +230,24 @@ static void watch_other_calls(void)
     STORES_NOTHING(13, btt_write(arena, length, &handle, 1, 7, buffer, 512));
     STORES_NOTHING(7, btt_write(arena, length, &handle, 1, 5, buffer, 512));
     STORES_NOTHING(18, btt_write(arena, length, &handle, 1, 6, buffer, 512));
-    handle.lane[3].busy = 2;
-    STORES_NOTHING(16, btt_write(arena, length, &handle, 1, 3, buffer, 512));
-    STORES_NOTHING(16, btt_step(arena, length, &handle, 0, buffer, 512));
-    handle.lane[3].busy = 0;
-    handle.copy = 0;
-    STORES_NOTHING(16, btt_write(arena, length, &handle, 1, 3, buffer, 512));
-    STORES_NOTHING(16, btt_step(arena, length, &handle, 0, buffer, 512));
+}
+
+/* A broken record, a layout that is none, and a broken figure. */
+static void watch_forged_handles(void)
+{
+    struct btt_handle forged[3];
+
+    fresh(512, 60, 4);
+    watch_steps(0, 7, 2);
+    forged[0] = forged[1] = forged[2] = handle;
+    forged[0].lane[3].busy = 2;
+    forged[1].layout = 48;
+    forged[2].copy = 0;
+    tracing = 1;
+    for (size_t i = 0; i < COUNT(forged); i++) {
+        STORES_NOTHING(16, btt_write(arena, length, &forged[i], 1, 3, buffer, 512));
+        STORES_NOTHING(16, btt_step(arena, length, &forged[i], 0, buffer, 512));
+    }
 }
 
 /* Whole writes and writes by steps on each lane in turn, so that both halves and all sequence numbers occur, over all four map states. */
@@ -261,13 +290,18 @@ int main(int count, char **words)
 {
     set_up();
     known_stores();
-    watch_writes(512, 60, 4);
-    watch_writes(4096, 4, 2);
-    watch_mending(512, 60, 4);
-    watch_mending(512, 20, 16);
-    watch_mending(4096, 5, 2);
-    watch_refused_openings();
-    watch_other_calls();
+    for (size_t i = 0; i < COUNT(layouts); i++) {
+        layout = layouts[i];
+        watch_writes(512, 60, 4);
+        watch_writes(4096, 4, 2);
+        watch_mending(512, 60, 4);
+        watch_mending(512, 20, 16);
+        watch_mending(4096, 5, 2);
+        watch_refused_openings();
+        watch_refused_layouts();
+        watch_other_calls();
+        watch_forged_handles();
+    }
     if (count > 1) {
         list_instructions(words[1]);
     }

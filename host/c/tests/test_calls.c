@@ -1,4 +1,4 @@
-/* The calls with a handle, from C: every answer of their rows and the order among them, and what each must leave as it was. */
+/* The calls with a handle, from C, in both layouts: every answer of their rows and the order among them, and what each must leave. */
 #include "lent.h"
 
 /* The calls again with each of these sector buffers, none of which is a sector long. */
@@ -170,6 +170,11 @@ static void test_bad_figures(void)
         all_with_handle(16);
     }
     one_in_flight();
+    for (size_t i = 0; i < COUNT(no_layouts); i++) {
+        handle->layout = no_layouts[i];
+        all_with_handle(16);
+    }
+    handle->layout = layout;
     for (size_t i = 0; i < COUNT(lengths); i++) {
         lend(ARENA, lengths[i]);
         all_with_handle(16);
@@ -215,8 +220,8 @@ static void sloppy_in_flight(uint32_t word)
     CALL(0, STEPPED, step(0));
     put32(map_word(5), word);
     put32(map_word(7), word);
-    for (uint32_t lane = 0; lane < LANES; lane++) {
-        pattern(arena + FLOG + 64 * lane + 32, 32, 12 + lane);
+    for (size_t at = 0; at < 64 * LANES; at++) {
+        arena[FLOG + at] = is_padding(at % 64) ? (uint8_t)(12 + at) : arena[FLOG + at];
     }
 }
 
@@ -264,11 +269,40 @@ static int only_lane_changed(uint32_t lane)
     return memcmp(handle, was(HANDLE), at) == 0 && memcmp(lent[HANDLE].at + after, was(HANDLE) + after, sizeof *handle - after) == 0;
 }
 
-/* Of an accepted call's handle only the record of its lane changes: the reserved word and what stands past the lanes are kept. */
+/*
+ * The other layout in a handle is not found out: every call answers as it did, and the flog words of a write go to the other place. Both
+ * halves of lane 1 are written, the second first.
+ */
+static void test_exchanged_layout(void)
+{
+    one_in_flight();
+    handle->layout = other_layout();
+    CALL(0, ONLY(BUFFER), read_sector(3));
+    CALL(0, ONLY(RECORD), lane_record(0));
+    CALL(13, NOTHING, start(1, 7));
+    CALL(7, NOTHING, write_sector(1, 5));
+    CALL(14, NOTHING, next_store(2));
+    CALL(0, STEPPED, step(0));
+    for (uint32_t half = 1; half < 2; half--) {
+        size_t at = FLOG + 64 + other_layout() * half;
+
+        CHECK(handle->lane[1].half == half);
+        CALL(0, ONLY(HANDLE), start(1, 3));
+        for (int k = 0; k <= LAST; k++) {
+            CALL(0, ONLY(OFFSET), next_store(1));
+            CHECK(k < LAST - 4 || k == LAST || get_bytes(lent[OFFSET].at, 8) == at + 4 * (size_t)(k - LAST + 4));
+            CALL(0, STEPPED, step(1));
+        }
+        CHECK(get32(arena + at) == 3 && get32(arena + at + 12) == 3 - half);
+        CALL(0, STEPPED, write_sector(2, 4 + 2 * half));
+        CHECK(get32(arena + at + 64) == 4 + 2 * half && get32(arena + at + 76) == 3 - half);
+    }
+}
+
+/* Of an accepted call's handle only the record of its lane changes: the layout and what stands past the lanes are kept. */
 static void test_kept(void)
 {
     one_in_flight();
-    handle->reserved = 0xDEADBEEF;
     memset(&handle->lane[LANES], 0xFF, (BTT_MAX_LANES - LANES) * sizeof(struct btt_lane));
     handle->lane[LANES] = (struct btt_lane){.busy = 1, .block = 60, .half = 1, .sequence = 2, .sector = 3, .old = 3, .made = 0};
     for (uint32_t lane = 1; lane < 4; lane++) {
@@ -296,7 +330,7 @@ static void test_texts(void)
 int main(void)
 {
     static const test tests[] = {test_read, test_start, test_step, test_write, test_looks, test_bad_figures, test_bad_records, test_sloppy,
-                                 test_kept, test_texts};
+                                 test_exchanged_layout, test_kept, test_texts};
 
-    return run("test_calls", tests, COUNT(tests));
+    return run("test_calls", tests, COUNT(tests), COUNT(layouts));
 }

@@ -1,6 +1,6 @@
 /*
- * Making, the info block that counts, opening and cut openings from C: every answer of their rows and the order among them, the empty slice,
- * and what each must leave as it was.
+ * Making, the info block that counts, opening and cut openings from C, in both layouts: every answer of their rows and the order among them,
+ * the empty slice, numbers that are no layout, and what each must leave as it was.
  */
 #include "lent.h"
 
@@ -59,8 +59,9 @@ static void test_info_block(void)
 static void refused_opening(uint32_t answer)
 {
     static const uint32_t cuts[] = {0, 1, 16, 0xFFFFFFFF};
-    size_t cleared = answer < 6 ? 0 : BLOCKS;
-    unsigned work = answer < 6 ? NOTHING : ONLY(WORK);
+    int untouched = answer < 6 || answer == 16;
+    size_t cleared = untouched ? 0 : BLOCKS;
+    unsigned work = untouched ? NOTHING : ONLY(WORK);
 
     for (size_t i = 0; i <= COUNT(cuts); i++) {
         pattern(lent[WORK].at, lent[WORK].length, 5);
@@ -78,6 +79,18 @@ static void refused_opening(uint32_t answer)
     }
 }
 
+/* A number that is no layout is refused before anything else, whatever is wrong with the arena or the work buffer, or if nothing is. */
+static void refused_layouts(void)
+{
+    uint32_t told = layout;
+
+    for (size_t i = 0; i < COUNT(no_layouts); i++) {
+        layout = no_layouts[i];
+        refused_opening(16);
+    }
+    layout = told;
+}
+
 static void test_open_lengths(void)
 {
     static const size_t lengths[] = {0, 1, 4096, 16384, 49151, 49153, 16777216 + 4096};
@@ -87,14 +100,19 @@ static void test_open_lengths(void)
     for (size_t i = 0; i < COUNT(lengths); i++) {
         lend(ARENA, lengths[i]);
         refused_opening(1);
+        refused_layouts();
     }
     lend(ARENA, WHOLE);
     refused_opening(2);
+    refused_layouts();
     for (size_t i = 0; i < COUNT(rooms); i++) {
         fresh_case();
         lend(WORK, rooms[i]);
         refused_opening(5);
+        refused_layouts();
     }
+    fresh_case();
+    refused_layouts();
 }
 
 struct patch {
@@ -103,6 +121,7 @@ struct patch {
     uint64_t value;
 };
 
+/* Offsets are those of layout 16. */
 static const struct {
     uint32_t answer;
     struct patch patch[2];
@@ -137,7 +156,7 @@ static void test_open_damaged(void)
         fresh_case();
         lend(WORK, BLOCKS + 9);
         for (int j = 0; j < 2; j++) {
-            put_bytes(arena + damaged[i].patch[j].at, damaged[i].patch[j].width, damaged[i].patch[j].value);
+            put_bytes(arena + placed(damaged[i].patch[j].at), damaged[i].patch[j].width, damaged[i].patch[j].value);
         }
         seal(arena);
         if (damaged[i].answer == 0) {
@@ -145,6 +164,31 @@ static void test_open_damaged(void)
         } else {
             refused_opening(damaged[i].answer);
         }
+        refused_layouts();
+    }
+}
+
+/*
+ * Each byte of each lane changed alone, by the word that it is in: N is of the newer half or a sequence number, o of the rest of the older
+ * half, which is not judged, and a point is padding.
+ */
+static void test_lane_bytes(void)
+{
+    const char *words = layout == 16 ? "NNNNoooN........" : "NNNN....oooN....";
+
+    fresh_case();
+    for (size_t at = 0; at < 64 * LANES; at++) {
+        char word = words[at % 64 / 4];
+
+        arena[FLOG + at] ^= 0xFF;
+        CHECK((word == '.') == is_padding(at % 64));
+        if (word == 'o') {
+            CALL(0, ONLY(WORK) | ONLY(MENDED), cut_open(1));
+            CALL(0, OPENED, open_arena());
+        } else {
+            refused_opening(word == '.' ? 18 : 6);
+        }
+        arena[FLOG + at] ^= 0xFF;
     }
 }
 
@@ -163,7 +207,7 @@ static void test_open_sloppy(void)
         put32(map_word(sectors[i]), 0);
     }
     for (size_t at = FLOG; at < FLOG + 64 * LANES; at++) {
-        for (unsigned bit = 0; bit < 8 && at % 64 >= 32; bit++) {
+        for (unsigned bit = 0; bit < 8 && is_padding(at % 64); bit++) {
             arena[at] = (uint8_t)(1 << bit);
             refused_opening(18);
             arena[at] = 0;
@@ -188,12 +232,48 @@ static void test_sloppy_and_pending(void)
         CALL(0, STEPPED, step(2));
     }
     for (size_t i = 0; i < COUNT(rows); i++) {
-        put_bytes(arena + rows[i].at, rows[i].width, rows[i].value);
+        put_bytes(arena + placed(rows[i].at), rows[i].width, rows[i].value);
         refused_opening(18);
-        put_bytes(arena + rows[i].at, rows[i].width, 0);
+        put_bytes(arena + placed(rows[i].at), rows[i].width, 0);
     }
+    refused_layouts();
     CALL(0, OPENED | ONLY(ARENA), open_arena());
     CHECK(mended() == 1 && get32(map_word(7)) == 0xC000003E);
+}
+
+/*
+ * A made arena opens in both layouts. From the first store that is not 0 to a second half on the other one is refused, which for sector 0,
+ * whose number and block are 0, is the third of them; an opening there mends nothing.
+ */
+static void test_other_layout(void)
+{
+    static const uint32_t rows[][2] = {{7, 129}, {0, 131}};
+
+    for (size_t i = 0; i < COUNT(rows); i++) {
+        struct btt_handle opened;
+
+        fresh_case();
+        opened = *handle;
+        opened.layout = layout = other_layout();
+        CALL(0, OPENED, open_arena());
+        CHECK(memcmp(handle, &opened, sizeof opened) == 0);
+        layout = handle->layout = other_layout();
+        CALL(0, ONLY(HANDLE), start(3, rows[i][0]));
+        opened = *handle;
+        for (uint32_t n = 1; n <= LAST + 1; n++) {
+            *handle = opened;
+            CALL(0, STEPPED, step(3));
+            opened = *handle;
+            layout = other_layout();
+            if (n >= rows[i][1]) {
+                refused_opening(18);
+            } else {
+                CALL(0, OPENED, open_arena());
+            }
+            layout = other_layout();
+        }
+        CALL(0, OPENED, open_arena());
+    }
 }
 
 static void test_open_gives(void)
@@ -207,7 +287,7 @@ static void test_open_gives(void)
     CALL(0, OPENED, open_arena());
     CHECK(handle->length == WHOLE && handle->data == DATA && handle->map == MAP && handle->flog == FLOG && handle->copy == COPY);
     CHECK(handle->size == SIZE && handle->sectors == SECTORS && handle->internal == SIZE && handle->blocks == BLOCKS && handle->lanes == LANES);
-    CHECK(handle->reserved == 0);
+    CHECK(handle->layout == layout);
     CHECK(all_bytes(lent[WORK].at, BLOCKS, 0) && lent[WORK].at[BLOCKS] == was(WORK)[BLOCKS]);
     for (uint32_t i = 0; i < BTT_MAX_LANES; i++) {
         struct btt_lane lane = {.block = SECTORS + i, .half = 1, .sequence = 2};
@@ -245,8 +325,8 @@ static void test_cut_open(void)
 
 int main(void)
 {
-    static const test tests[] = {test_make, test_info_block, test_open_lengths, test_open_damaged, test_open_sloppy, test_sloppy_and_pending,
-                                 test_open_gives, test_cut_open};
+    static const test tests[] = {test_make, test_info_block, test_open_lengths, test_open_damaged, test_lane_bytes, test_open_sloppy,
+                                 test_sloppy_and_pending, test_other_layout, test_open_gives, test_cut_open};
 
-    return run("test_opening", tests, COUNT(tests));
+    return run("test_opening", tests, COUNT(tests), COUNT(layouts));
 }

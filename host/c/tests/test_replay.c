@@ -1,6 +1,6 @@
 /*
  * Replays of run logs from C: writes in steps and cut, refused records, every way in which a record can be wrong, buffers that are short, and what
- * a replay must leave as it was.
+ * a replay must leave as it was. A replay is in layout 16.
  */
 #include "lent.h"
 
@@ -74,14 +74,14 @@ static void by_calls(uint8_t *image, uint8_t *numbers)
     size_t all = lent[ARENA].length;
     uint32_t pending;
 
-    CHECK(btt_open(image, all, room, sizeof room, &opened, &pending) == 0);
+    CHECK(btt_open(image, all, room, sizeof room, BTT_LAYOUT_NEAR, &opened, &pending) == 0);
     for (size_t i = 0; i < count; i++) {
         for (uint32_t k = 0; k < opened.size / 4; k++) {
             put32(buffer + 4 * k, (uint32_t)i + k);
         }
         numbers[i] = (uint8_t)(rows[i].kind == START  ? btt_start(image, all, &opened, rows[i].lane, rows[i].sector)
                                : rows[i].kind == STEP ? btt_step(image, all, &opened, rows[i].lane, buffer, opened.size)
-                                                      : btt_open(image, all, room, sizeof room, &opened, &pending));
+                                                      : btt_open(image, all, room, sizeof room, BTT_LAYOUT_NEAR, &opened, &pending));
     }
 }
 
@@ -328,10 +328,25 @@ static void test_refused_openings(void)
     }
 }
 
+/* An arena whose second halves stand at byte 32 is refused once one of them is written, and a replay writes them at byte 16. */
+static void test_one_layout(void)
+{
+    layout = BTT_LAYOUT_FAR;
+    fresh_case();
+    write_and_cut();
+    replayed(0, 0);
+    CALL(18, OPENED, open_arena());
+    fresh_case();
+    lend_log();
+    CALL(0, STEPPED, write_sector(0, 7));
+    refused(18);
+    layout = BTT_LAYOUT_NEAR;
+}
+
 int main(void)
 {
     static const test tests[] = {test_write, test_cuts, test_two_lanes, test_refused_records, test_bad_records, test_short_answers, test_long_logs,
-                                 test_refused_openings};
+                                 test_refused_openings, test_one_layout};
 
-    return run("test_replay", tests, COUNT(tests));
+    return run("test_replay", tests, COUNT(tests), 1);
 }

@@ -1,6 +1,6 @@
 /*
- * Writes from C, store by store and whole, for both sector sizes: each step's one word, reads meanwhile, and a power cut after every store.
- * Cases 9 and 10 are here with the figures of docs/FORMAT.md, section 14.
+ * Writes from C, store by store and whole, for both sector sizes and in both layouts: each step's one word, reads meanwhile, and a power cut
+ * after every store. Case 9 and its twin and case 10 are here with the figures of docs/FORMAT.md, section 14.
  */
 #include "lent.h"
 
@@ -20,7 +20,7 @@ static struct store store_of(uint32_t lane, uint32_t k)
         return (struct store){handle->data + (uint64_t)r->block * handle->size + 4 * k, get32(lent[BUFFER].at + 4 * k)};
     }
     if (part < 4) {
-        return (struct store){handle->flog + 64 * lane + 16 * r->half + 4 * part, flog[part]};
+        return (struct store){handle->flog + 64 * lane + layout * r->half + 4 * part, flog[part]};
     }
     return (struct store){handle->map + 4 * r->sector, 0xC0000000 + r->block};
 }
@@ -55,11 +55,11 @@ static void cut_gives(uint32_t sector, uint32_t count, const uint8_t *bytes)
 
     CHECK(lent[ARENA].length <= sizeof image && handle->blocks <= sizeof room);
     memcpy(image, arena, lent[ARENA].length);
-    CHECK(btt_open(image, lent[ARENA].length, room, sizeof room, &opened, &pending) == 0);
+    CHECK(btt_open(image, lent[ARENA].length, room, sizeof room, layout, &opened, &pending) == 0);
     CHECK(pending == count);
     CHECK(btt_read(image, lent[ARENA].length, &opened, sector, got, handle->size) == 0);
     CHECK(memcmp(got, bytes, handle->size) == 0);
-    CHECK(btt_open(image, lent[ARENA].length, room, sizeof room, &opened, &pending) == 0);
+    CHECK(btt_open(image, lent[ARENA].length, room, sizeof room, layout, &opened, &pending) == 0);
     CHECK(pending == 0);
 }
 
@@ -140,8 +140,10 @@ static void test_in_turn(void)
 
 static void test_case_9(void)
 {
-    static const struct store last[] = {{40976, 7}, {40980, 7}, {40984, 60}, {40988, 2}, {36892, 0xC000003C}};
+    static const struct store case_9[] = {{40976, 7}, {40980, 7}, {40984, 60}, {40988, 2}, {36892, 0xC000003C}};
+    static const struct store twin[] = {{40992, 7}, {40996, 7}, {41000, 60}, {41004, 2}, {36892, 0xC000003C}};
     static const uint8_t zeroes[512];
+    const struct store *last = layout == 16 ? case_9 : twin;
 
     fresh_case();
     CHECK(lent[ARENA].length == 49152);
@@ -183,5 +185,5 @@ int main(void)
 {
     static const test tests[] = {test_both_ways, test_in_turn, test_case_9, test_case_10};
 
-    return run("test_writes", tests, COUNT(tests));
+    return run("test_writes", tests, COUNT(tests), COUNT(layouts));
 }

@@ -185,7 +185,7 @@ static void set_up(void)
     CHECK(ran != NULL);
     stored = ran + code;
     stored_word = stored + code;
-    alarm(60);
+    alarm(120);
 }
 
 #endif

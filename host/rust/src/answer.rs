@@ -48,7 +48,8 @@ pub enum Answer {
     LaneIdle = 14,
     /// 15: the sector read is marked bad: its map word has bit 30 (Error) alone.
     BadSector = 15,
-    /// 16: the handle breaks a figure, has a record out of range, or does not match the arena's length.
+    /// 16: the handle breaks a figure, has a record out of range, does not match the arena's length, or has a layout that is neither 16
+    /// nor 32; or an opening of [`sys`](crate::sys) is told such a layout.
     BadHandle = 16,
     /// 18: a map word with neither bit 31 nor bit 30 is not 0, or the padding of a lane is not zero.
     Sloppy = 18,
@@ -122,7 +123,9 @@ impl fmt::Display for Answer {
             Answer::SectorBusy => "another lane has a write to that sector in flight",
             Answer::LaneIdle => "the lane has no write in flight to go on with",
             Answer::BadSector => "the sector is marked bad, and cannot be read until it is written",
-            Answer::BadHandle => "the handle does not belong to an arena of this length, or is damaged",
+            Answer::BadHandle => {
+                "the handle does not belong to an arena of this length or is damaged, or the layout told is neither 16 nor 32"
+            }
             Answer::Sloppy => "the arena is sloppy: a map word that should be zero is not, or the padding of a lane in the flog is not zero",
             Answer::BadRecord => {
                 "the log has a record that is short, of another length than its kind's or of no known kind, or is longer than 8,192 bytes"

@@ -1,6 +1,7 @@
 //! The calls on an arena that is lent to be changed.
 use crate::geometry::{Geometry, Identifiers};
 use crate::handle::{Handle, Lane};
+use crate::layout::Layout;
 use crate::view::{address_allowed, ArenaRef, Misaligned};
 use crate::{sys, Answer};
 use std::fmt;
@@ -104,8 +105,8 @@ impl<'a> Arena<'a> {
         })
     }
 
-    /// Opens the arena: all is judged before anything is stored, then each pending lane, whose write lacked only its map word when
-    /// the power went, is mended by one store to the map.
+    /// Opens the arena in the usual layout, [`Layout::Near`]: all is judged before anything is stored, then each pending lane, whose
+    /// write lacked only its map word when the power went, is mended by one store to the map.
     ///
     /// The work buffer needs a byte for each block, that is for each sector and lane; [`MAX_BLOCKS`](crate::MAX_BLOCKS) is enough for
     /// every arena. What it holds does not matter. Unless the answer is one of 1 to 5, as many of its bytes as there are blocks are 0
@@ -124,18 +125,40 @@ impl<'a> Arena<'a> {
     /// assert_eq!(arena.open(&mut [0; 64]), Err(Answer::NoInfoBlock));
     /// ```
     pub fn open(&mut self, work: &mut [u8]) -> Result<Opened, Answer> {
+        self.open_in(Layout::default(), work)
+    }
+
+    /// Opens the arena in a layout, and in all else as [`open`](Arena::open) does. The handle carries the layout.
+    ///
+    /// ```
+    /// use btt::{AlignedBytes, Answer, Arena, Geometry, Identifiers, Layout};
+    ///
+    /// # let mut memory = AlignedBytes::zeroed(49_152);
+    /// let mut arena = Arena::new(&mut memory).unwrap();
+    /// arena.make(Geometry { size: 512, sectors: 60, lanes: 4 }, Identifiers::ZEROES)?;
+    /// let mut handle = arena.open_in(Layout::Far, &mut [0; 64])?.handle;
+    /// assert_eq!(handle.layout, 32);
+    /// arena.write(&mut handle, 0, 7, &[1; 512])?;
+    ///
+    /// assert_eq!(arena.open(&mut [0; 64]), Err(Answer::Sloppy), "what was written is padding in the other layout");
+    /// assert!(arena.open_in(Layout::Far, &mut [0; 64]).is_ok());
+    /// # Ok::<(), Answer>(())
+    /// ```
+    pub fn open_in(&mut self, layout: Layout, work: &mut [u8]) -> Result<Opened, Answer> {
         let mut opened = Opened { handle: Handle::default(), mended: 0 };
-        let length = self.bytes.len();
+        let (length, room, layout) = (self.bytes.len(), work.len(), layout.bytes());
         // SAFETY: the pointers are of two slices with their lengths, a handle and a number, all borrowed alone and so apart; the
         // arena's address was looked at by `new`.
         Answer::outcome(unsafe {
-            sys::btt_open(self.address(), length, work.as_mut_ptr(), work.len(), &raw mut opened.handle, &raw mut opened.mended)
+            let Opened { handle, mended } = &mut opened;
+            sys::btt_open(self.address(), length, work.as_mut_ptr(), room, layout, handle, mended)
         })?;
         Ok(opened)
     }
 
-    /// An opening that stops after its first `k` stores, or makes all if there are fewer, as a power cut would stop it. It answers
-    /// and leaves the work buffer as [`open`](Arena::open) does, gives the number of lanes that were pending, and no handle.
+    /// An opening in the usual layout, [`Layout::Near`], that stops after its first `k` stores, or makes all if there are fewer, as a
+    /// power cut would stop it. It answers and leaves the work buffer as [`open`](Arena::open) does, gives the number of lanes that
+    /// were pending, and no handle.
     ///
     /// A host whose medium needs a flush after every store opens by it: see [the crate's page](crate#opening).
     ///
@@ -148,10 +171,17 @@ impl<'a> Arena<'a> {
     /// assert_eq!(arena.cut_open(&mut [0; 2], 0), Ok(0));
     /// ```
     pub fn cut_open(&mut self, work: &mut [u8], k: u32) -> Result<u32, Answer> {
+        self.cut_open_in(Layout::default(), work, k)
+    }
+
+    /// An opening in a layout that stops after its first `k` stores, and in all else as [`cut_open`](Arena::cut_open) does.
+    pub fn cut_open_in(&mut self, layout: Layout, work: &mut [u8], k: u32) -> Result<u32, Answer> {
         let mut mended = 0;
-        let length = self.bytes.len();
-        // SAFETY: as in `open`.
-        Answer::outcome(unsafe { sys::btt_cut_open(self.address(), length, work.as_mut_ptr(), work.len(), k, &raw mut mended) })?;
+        let (length, room, layout) = (self.bytes.len(), work.len(), layout.bytes());
+        // SAFETY: as in `open_in`.
+        Answer::outcome(unsafe {
+            sys::btt_cut_open(self.address(), length, work.as_mut_ptr(), room, layout, k, &raw mut mended)
+        })?;
         Ok(mended)
     }
 

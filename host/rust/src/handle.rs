@@ -74,8 +74,9 @@ pub struct Handle {
     pub blocks: u32,
     /// The number of lanes: 1 to 16.
     pub lanes: u32,
-    /// Opening makes it 0; no call judges it, and no other call changes it.
-    pub reserved: u32,
+    /// The layout that opening was told, as [`Layout::bytes`](crate::Layout::bytes) gives it: 16 or 32, the bytes from a lane's first
+    /// half in the flog to its second. Every call answers [`BadHandle`](crate::Answer::BadHandle) for another value, and none changes it.
+    pub layout: u32,
     /// The records of the lanes. Those past the lanes are 0 after opening; no call judges them, and no other call changes them.
     pub lane: [Lane; MAX_LANES],
 }

@@ -88,6 +88,12 @@
 //! often as its first answer counts lanes, and flush the map and fence after each call; [`Arena::open`] then finds nothing to mend and
 //! stores nothing.
 //!
+//! # Layouts
+//!
+//! A lane keeps two halves of a pair in the flog. Most arenas have the second at byte 16 of the lane's 64 bytes, some at byte 32, and
+//! nothing in an arena says which: it is a [`Layout`]. [`OpenArena::open`], [`Arena::open`] and [`Arena::cut_open`] take the usual one,
+//! and `open_in` and `cut_open_in` beside them the one that they are told. Every later call takes it from the handle.
+//!
 //! # Building
 //!
 //! The build script runs `rt staticlib btt` at the repository's root, which proves the library and writes its archive. With
@@ -104,6 +110,7 @@ mod answer;
 mod arena;
 mod geometry;
 mod handle;
+mod layout;
 mod open_arena;
 mod replay;
 pub mod sys;
@@ -114,6 +121,7 @@ pub use answer::Answer;
 pub use arena::{Arena, Opened};
 pub use geometry::{Geometry, Identifiers, ID_SIZE, INFO_SIZE, MAX_ARENA, MAX_BLOCKS, MIN_ARENA};
 pub use handle::{Handle, Lane, HANDLE_SIZE, LANE_SIZE, MAX_LANES};
+pub use layout::{Layout, UnknownLayout};
 pub use open_arena::{OpenArena, Store};
 pub use replay::{Replay, MAX_LOG, MAX_RECORDS};
 pub use view::{ArenaRef, Misaligned};

@@ -1,7 +1,7 @@
 //! An opened arena as a row of sectors.
 use crate::geometry::MAX_BLOCKS;
 use crate::handle::Handle;
-use crate::{Answer, Arena, Opened};
+use crate::{Answer, Arena, Layout, Opened};
 
 /// One store of a write, made in the arena's bytes.
 #[derive(Clone, Copy, Debug, PartialEq, Eq)]
@@ -37,14 +37,35 @@ pub struct OpenArena<'a> {
     arena: Arena<'a>,
     handle: Handle,
     mended: u32,
+    layout: Layout,
 }
 
 impl<'a> OpenArena<'a> {
-    /// Opens an arena with a work buffer of its own. Answers 1 to 4, 6, 7, 18 and 8, as [`Arena::open`] does.
-    pub fn open(mut arena: Arena<'a>) -> Result<OpenArena<'a>, Answer> {
+    /// Opens an arena in the usual layout, [`Layout::Near`], with a work buffer of its own. Answers 1 to 4, 6, 7, 18 and 8, as
+    /// [`Arena::open`] does.
+    pub fn open(arena: Arena<'a>) -> Result<OpenArena<'a>, Answer> {
+        OpenArena::open_in(Layout::default(), arena)
+    }
+
+    /// Opens an arena in a layout, and in all else as [`open`](OpenArena::open) does.
+    ///
+    /// ```
+    /// use btt::{AlignedBytes, Arena, Geometry, Identifiers, Layout, OpenArena};
+    ///
+    /// # fn main() -> Result<(), Box<dyn std::error::Error>> {
+    /// # let mut memory = AlignedBytes::zeroed(49_152);
+    /// # let mut arena = Arena::new(&mut memory)?;
+    /// # arena.make(Geometry { size: 512, sectors: 60, lanes: 4 }, Identifiers::ZEROES)?;
+    /// let mut opened = OpenArena::open_in(Layout::Far, arena)?;
+    /// opened.write_sector(7, &[1; 512])?;
+    /// assert_eq!(opened.layout(), Layout::Far);
+    /// # Ok(())
+    /// # }
+    /// ```
+    pub fn open_in(layout: Layout, mut arena: Arena<'a>) -> Result<OpenArena<'a>, Answer> {
         let mut work = vec![0; MAX_BLOCKS];
-        let Opened { handle, mended } = arena.open(&mut work)?;
-        Ok(OpenArena { arena, handle, mended })
+        let Opened { handle, mended } = arena.open_in(layout, &mut work)?;
+        Ok(OpenArena { arena, handle, mended, layout })
     }
 
     /// The bytes of a sector.
@@ -60,6 +81,11 @@ impl<'a> OpenArena<'a> {
     /// The number of lanes that were pending when the arena was opened.
     pub fn mended(&self) -> u32 {
         self.mended
+    }
+
+    /// The layout in which the arena was opened.
+    pub fn layout(&self) -> Layout {
+        self.layout
     }
 
     /// The latest handle.

@@ -23,18 +23,29 @@ extern "C" {
     /// Where the info block that counts is, 0 and 0 if none does: see [`ArenaRef::info_block`](crate::ArenaRef::info_block).
     pub fn btt_info_block(arena: *const u8, arena_length: usize, offset: *mut u64, length: *mut u64);
 
-    /// Opens an arena: see [`Arena::open`](crate::Arena::open). A refusal makes the count 0 and the handle all zeroes.
+    /// Opens an arena: see [`Arena::open_in`](crate::Arena::open_in). Any number may be given as the layout: one that is neither 16 nor 32
+    /// is answered with 16, before all else. A refusal makes the count 0 and the handle all zeroes.
     pub fn btt_open(
         arena: *mut u8,
         arena_length: usize,
         work: *mut u8,
         work_length: usize,
+        layout: u32,
         handle: *mut Handle,
         mended: *mut u32,
     ) -> u32;
 
-    /// An opening that stops after k stores: see [`Arena::cut_open`](crate::Arena::cut_open). A refusal makes the count 0.
-    pub fn btt_cut_open(arena: *mut u8, arena_length: usize, work: *mut u8, work_length: usize, k: u32, mended: *mut u32) -> u32;
+    /// An opening that stops after k stores: see [`Arena::cut_open_in`](crate::Arena::cut_open_in). It takes any layout as `btt_open` does,
+    /// and a refusal makes the count 0.
+    pub fn btt_cut_open(
+        arena: *mut u8,
+        arena_length: usize,
+        work: *mut u8,
+        work_length: usize,
+        layout: u32,
+        k: u32,
+        mended: *mut u32,
+    ) -> u32;
 
     /// Reads a sector: see [`ArenaRef::read`](crate::ArenaRef::read).
     pub fn btt_read(

@@ -2,7 +2,7 @@
 mod support;
 
 use btt::{
-    AlignedBytes, Answer, Arena, ArenaRef, Geometry, Handle, Identifiers, Lane, Misaligned, OpenArena, Opened, MAX_BLOCKS,
+    AlignedBytes, Answer, Arena, ArenaRef, Geometry, Handle, Identifiers, Lane, Layout, Misaligned, OpenArena, Opened, MAX_BLOCKS,
 };
 use plain::{put_word, seal, word};
 use support::GEOMETRY;
@@ -19,8 +19,12 @@ fn fresh() -> AlignedBytes {
 }
 
 fn opened(memory: &mut AlignedBytes) -> (Arena<'_>, Handle) {
+    opened_in(Layout::Near, memory)
+}
+
+fn opened_in(layout: Layout, memory: &mut AlignedBytes) -> (Arena<'_>, Handle) {
     let mut arena = Arena::new(memory).unwrap();
-    let handle = arena.open(&mut [0; 64]).unwrap().handle;
+    let handle = arena.open_in(layout, &mut [0; 64]).unwrap().handle;
     (arena, handle)
 }
 
@@ -47,9 +51,16 @@ fn the_work_buffer_for_every_arena_is_long_enough() {
 }
 
 #[test]
-fn a_write_makes_the_stores_of_case_9() {
+fn a_write_makes_the_stores_of_case_9_and_of_its_twin() {
+    let flog = |offsets: [usize; 4]| offsets.into_iter().zip([7, 7, 60, 2]).collect::<Vec<_>>();
+    stores_of_a_write(Layout::Near, flog([40_976, 40_980, 40_984, 40_988]));
+    stores_of_a_write(Layout::Far, flog([40_992, 40_996, 41_000, 41_004]));
+}
+
+/// Lane 0 of the fresh arena writes sector 7, with these stores to the flog.
+fn stores_of_a_write(layout: Layout, flog: Vec<(usize, u32)>) {
     let mut memory = fresh();
-    let (mut arena, mut handle) = opened(&mut memory);
+    let (mut arena, mut handle) = opened_in(layout, &mut memory);
     let buffer: Vec<u8> = (0..512).map(|i| (i * 7) as u8).collect();
     arena.start(&mut handle, 0, 7).unwrap();
     let mut offsets = Vec::new();
@@ -66,7 +77,8 @@ fn a_write_makes_the_stores_of_case_9() {
         offsets.push((offset, word(after, offset)));
     }
     let mut expected: Vec<(usize, u32)> = (0..128).map(|i| (34_816 + 4 * i, word(&buffer, 4 * i))).collect();
-    expected.extend([(40_976, 7), (40_980, 7), (40_984, 60), (40_988, 2), (36_892, 0xC000_003C)]);
+    expected.extend(flog);
+    expected.push((36_892, 0xC000_003C));
     assert_eq!(offsets, expected);
     assert_eq!(arena.lane(&handle, 0), Ok(Lane { block: 7, half: 0, sequence: 3, ..Lane::default() }));
     assert_eq!(arena.next_store(&handle, 0), Err(Answer::LaneIdle));
@@ -74,44 +86,47 @@ fn a_write_makes_the_stores_of_case_9() {
 
 #[test]
 fn a_cut_write_is_old_or_new() {
-    for (kept, new, mended) in [(0, false, 0), (131, false, 0), (132, true, 1), (133, true, 0)] {
+    let cuts = [(0, false, 0), (131, false, 0), (132, true, 1), (133, true, 0)];
+    for (layout, (kept, new, mended)) in Layout::ALL.into_iter().flat_map(|layout| cuts.map(|cut| (layout, cut))) {
         let mut memory = fresh();
-        let (mut arena, mut handle) = opened(&mut memory);
+        let (mut arena, mut handle) = opened_in(layout, &mut memory);
         arena.start(&mut handle, 0, 7).unwrap();
         for _ in 0..kept {
             arena.step(&mut handle, 0, &[5; 512]).unwrap();
         }
-        assert_eq!(arena.cut_open(&mut [0; 64], 0), Ok(mended));
-        let opened = arena.open(&mut [0; 64]).unwrap();
+        assert_eq!(arena.cut_open_in(layout, &mut [0; 64], 0), Ok(mended));
+        let opened = arena.open_in(layout, &mut [0; 64]).unwrap();
         assert_eq!(opened.mended, mended);
         let mut buffer = [9; 512];
         arena.read(&opened.handle, 7, &mut buffer).unwrap();
         assert_eq!(buffer, [if new { 5 } else { 0 }; 512]);
-        assert_eq!(arena.open(&mut [0; 64]), Ok(Opened { mended: 0, handle: opened.handle }));
+        assert_eq!(arena.open_in(layout, &mut [0; 64]), Ok(Opened { mended: 0, handle: opened.handle }));
     }
 }
 
 #[test]
 fn halves_are_judged_as_in_cases_6_to_8() {
-    let half = |memory: &mut AlignedBytes, lane: usize, words: [u32; 4]| {
-        for (i, word) in words.into_iter().enumerate() {
-            put_word(memory, FLOG + 64 * lane + 16 + 4 * i, word);
+    for layout in Layout::ALL {
+        let half = |memory: &mut AlignedBytes, lane: usize, words: [u32; 4]| {
+            for (i, word) in words.into_iter().enumerate() {
+                put_word(memory, FLOG + 64 * lane + layout.bytes() as usize + 4 * i, word);
+            }
+        };
+        for (found, mended) in [(0, 1), (0xC000_003C, 0)] {
+            let mut memory = fresh();
+            half(&mut memory, 0, [7, 7, 60, 2]);
+            put_word(&mut memory, MAP + 28, found);
+            let found = Arena::new(&mut memory).unwrap().open_in(layout, &mut [0; 64]).unwrap();
+            assert_eq!((found.mended, found.handle.lane[0].block), (mended, 7));
+            assert_eq!(word(&memory, MAP + 28), 0xC000_003C);
         }
-    };
-    for (found, mended) in [(0, 1), (0xC000_003C, 0)] {
         let mut memory = fresh();
         half(&mut memory, 0, [7, 7, 60, 2]);
-        put_word(&mut memory, MAP + 28, found);
-        let found = Arena::new(&mut memory).unwrap().open(&mut [0; 64]).unwrap();
-        assert_eq!((found.mended, found.handle.lane[0].block), (mended, 7));
-        assert_eq!(word(&memory, MAP + 28), 0xC000_003C);
+        half(&mut memory, 1, [7, 60, 61, 2]);
+        put_word(&mut memory, MAP + 28, 0xC000_003D);
+        let found = Arena::new(&mut memory).unwrap().open_in(layout, &mut [0; 64]).unwrap();
+        assert_eq!((found.mended, found.handle.lane[0].block, found.handle.lane[1].block), (0, 7, 60));
     }
-    let mut memory = fresh();
-    half(&mut memory, 0, [7, 7, 60, 2]);
-    half(&mut memory, 1, [7, 60, 61, 2]);
-    put_word(&mut memory, MAP + 28, 0xC000_003D);
-    let found = Arena::new(&mut memory).unwrap().open(&mut [0; 64]).unwrap();
-    assert_eq!((found.mended, found.handle.lane[0].block, found.handle.lane[1].block), (0, 7, 60));
 }
 
 #[test]
@@ -137,15 +152,19 @@ fn making_is_refused_in_order() {
 #[test]
 fn opening_is_refused_with_each_number() {
     let refused = |change: fn(&mut AlignedBytes), length: usize, room: usize| {
-        let mut memory = fresh();
-        change(&mut memory);
-        let before = memory.clone();
-        let mut work = vec![7; room];
-        let answer = Arena::new(&mut memory[..length]).unwrap().open(&mut work).unwrap_err();
-        assert_eq!(memory, before, "a refusal changes nothing");
-        let cleared = answer.number() > 5;
-        assert_eq!(work.iter().position(|byte| *byte == 7), Some(if cleared { 64 } else { 0 }).filter(|_| room > 0));
-        answer.number()
+        let answers = Layout::ALL.map(|layout| {
+            let mut memory = fresh();
+            change(&mut memory);
+            let before = memory.clone();
+            let mut work = vec![7; room];
+            let answer = Arena::new(&mut memory[..length]).unwrap().open_in(layout, &mut work).unwrap_err();
+            assert_eq!(memory, before, "a refusal changes nothing");
+            let cleared = answer.number() > 5;
+            assert_eq!(work.iter().position(|byte| *byte == 7), Some(if cleared { 64 } else { 0 }).filter(|_| room > 0));
+            answer.number()
+        });
+        assert_eq!(answers[0], answers[1]);
+        answers[0]
     };
     fn sealed(memory: &mut AlignedBytes, at: usize, word: u32) {
         put_word(memory, at, word);
@@ -161,7 +180,7 @@ fn opening_is_refused_with_each_number() {
     assert_eq!(refused(|memory| put_word(memory, FLOG + 12, 4), 49_152, 70), 6);
     assert_eq!(refused(|memory| put_word(memory, MAP, 0xC000_0040), 49_152, 70), 7);
     assert_eq!(refused(|memory| put_word(memory, MAP, 0x0000_0001), 49_152, 70), 18);
-    assert_eq!(refused(|memory| put_word(memory, FLOG + 32, 1), 49_152, 70), 18);
+    assert_eq!(refused(|memory| put_word(memory, FLOG + 48, 1), 49_152, 70), 18);
     assert_eq!(refused(|memory| put_word(memory, MAP, 0xC000_0001), 49_152, 70), 8);
 }
 
@@ -248,9 +267,13 @@ fn only_the_address_is_judged_before() {
 
 #[test]
 fn an_open_arena_is_a_row_of_sectors() {
+    Layout::ALL.into_iter().for_each(a_row_of_sectors);
+}
+
+fn a_row_of_sectors(layout: Layout) {
     let mut memory = fresh();
-    let mut opened = OpenArena::open(Arena::new(&mut memory).unwrap()).unwrap();
-    assert_eq!((opened.sector_size(), opened.sectors(), opened.mended()), (512, 60, 0));
+    let mut opened = OpenArena::open_in(layout, Arena::new(&mut memory).unwrap()).unwrap();
+    assert_eq!((opened.sector_size(), opened.sectors(), opened.mended(), opened.layout()), (512, 60, 0, layout));
     for sector in 0..60 {
         opened.write_sector(sector, &[sector as u8; 512]).unwrap();
     }
@@ -261,7 +284,7 @@ fn an_open_arena_is_a_row_of_sectors() {
     assert_eq!(opened.write_sector_by_steps(10, &[98; 511], |_| Ok::<(), Answer>(())), Err(Answer::WrongBuffer));
     assert_eq!(opened.handle().idle_lane(), Some(1), "a refused write leaves no lane busy");
     let (arena, _) = opened.into_parts();
-    let opened = OpenArena::open(arena).unwrap();
+    let opened = OpenArena::open_in(layout, arena).unwrap();
     assert_eq!(opened.mended(), 1);
     let mut buffer = [0; 512];
     for sector in 0..60 {

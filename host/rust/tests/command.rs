@@ -1,13 +1,13 @@
 //! The command btt.
 mod support;
 
-use btt::{Geometry, Identifiers, MAX_BLOCKS};
+use btt::{Geometry, Identifiers, Layout, MAX_BLOCKS};
 use plain::{put_word, seal};
 use std::fs;
 use std::os::unix::fs::symlink;
 use support::chance::Chance;
 use support::place::Place;
-use support::{arenas, made, number, GEOMETRY};
+use support::{arenas, made, number, GEOMETRY, LAYOUTS};
 
 const MAKE: &str = "make arena --size 512 --sectors 60 --lanes 4";
 
@@ -171,14 +171,17 @@ fn a_report_is_that_of_the_program() {
     let mut chance = Chance::new(41);
     let mut answers = [0; 19];
     for _ in 0..150 {
-        let mut arena = arenas::valid(&mut chance);
+        let layout = arenas::layout(&mut chance);
+        let mut arena = arenas::valid(&mut chance, layout);
         if chance.once_in(2) {
-            arenas::damage(&mut chance, &mut arena);
+            arenas::damage(&mut chance, &mut arena, layout);
         }
         fs::write(place.path("arena"), &arena).unwrap();
-        let (number, expected) = report(&arena);
+        let (number, expected) = report(&arena, layout);
         answers[number as usize] += 1;
-        let output = place.run("report arena", &[]);
+        let usual = layout == Layout::Near.bytes() && chance.once_in(2);
+        let told = if usual { String::new() } else { format!("--layout {layout}") };
+        let output = place.run(&format!("report arena {told}"), &[]);
         assert_eq!(String::from_utf8(output.stdout).unwrap(), expected);
         assert_eq!(output.status.code(), Some(i32::from(number != 0)));
         let said = String::from_utf8(output.stderr).unwrap();
@@ -189,8 +192,8 @@ fn a_report_is_that_of_the_program() {
 }
 
 /// The report by the plain program.
-fn report(arena: &[u8]) -> (u32, String) {
-    let opened = plain::open(&mut arena.to_vec(), &mut [0; MAX_BLOCKS]);
+fn report(arena: &[u8], layout: u32) -> (u32, String) {
+    let opened = plain::open(&mut arena.to_vec(), &mut [0; MAX_BLOCKS], layout);
     let number = number(&opened);
     let Ok(opened) = opened else {
         return (number, format!("refused {number}\n"));
@@ -207,16 +210,18 @@ fn report(arena: &[u8]) -> (u32, String) {
 #[test]
 fn sectors_are_read_and_written() {
     let place = Place::new("sectors");
-    for (size, sectors) in [(512, 60), (4096, 7)] {
+    for (size, sectors, layout, told) in
+        [(512, 60, 16, ""), (4096, 7, 16, "--layout=16"), (512, 60, 32, "--layout 32"), (4096, 7, 32, "--layout=32")]
+    {
         place.done(&format!("make arena --size {size} --sectors {sectors} --lanes 4 --force"), &[]);
         let mut expected = fs::read(place.path("arena")).unwrap();
         let mut chance = Chance::new(42);
         for _ in 0..12 {
             let sector = chance.below(sectors) as u32;
             let bytes = chance.bytes(size);
-            assert!(place.done(&format!("write arena {sector}"), &bytes).is_empty());
-            assert!(place.done(&format!("read arena {sector}"), &[]) == bytes);
-            let mut handle = plain::open(&mut expected, &mut [0; 128]).unwrap().handle;
+            assert!(place.done(&format!("write arena {sector} {told}"), &bytes).is_empty());
+            assert!(place.done(&format!("read arena {sector} {told}"), &[]) == bytes);
+            let mut handle = plain::open(&mut expected, &mut [0; 128], layout).unwrap().handle;
             plain::write(&mut expected, &mut handle, 0, sector, &bytes).unwrap();
             assert!(fs::read(place.path("arena")).unwrap() == expected, "the file has the stores of a write on lane 0");
         }
@@ -266,7 +271,7 @@ fn refused_reads_and_writes_change_nothing() {
 fn a_sloppy_arena_is_refused_and_left() {
     let place = Place::new("sloppy");
     let mut arena = made(GEOMETRY);
-    let mut handle = plain::open(&mut arena, &mut [0; 64]).unwrap().handle;
+    let mut handle = plain::open(&mut arena, &mut [0; 64], 16).unwrap().handle;
     plain::start(&arena, &mut handle, 2, 11).unwrap();
     (0..132).for_each(|_| plain::step(&mut arena, &mut handle, 2, &[7; 512]).unwrap());
     fs::write(place.path("log"), []).unwrap();
@@ -292,21 +297,24 @@ fn a_sloppy_arena_is_refused_and_left() {
 #[test]
 fn a_pending_lane_is_mended_in_the_file_only_by_a_write() {
     let place = Place::new("pending");
-    let mut arena = made(GEOMETRY);
-    let mut handle = plain::open(&mut arena, &mut [0; 64]).unwrap().handle;
-    for (lane, sector) in [(2, 11), (3, 12)] {
-        plain::start(&arena, &mut handle, lane, sector).unwrap();
-        (0..132).for_each(|_| plain::step(&mut arena, &mut handle, lane, &[lane as u8; 512]).unwrap());
+    for layout in LAYOUTS {
+        let arena_in = format!("arena --layout {layout}");
+        let mut arena = made(GEOMETRY);
+        let mut handle = plain::open(&mut arena, &mut [0; 64], layout).unwrap().handle;
+        for (lane, sector) in [(2, 11), (3, 12)] {
+            plain::start(&arena, &mut handle, lane, sector).unwrap();
+            (0..132).for_each(|_| plain::step(&mut arena, &mut handle, lane, &[lane as u8; 512]).unwrap());
+        }
+        fs::write(place.path("arena"), &arena[..]).unwrap();
+        assert!(place.done(&format!("read {arena_in} 11"), &[]) == [2; 512]);
+        assert!(String::from_utf8(place.done(&format!("report {arena_in}"), &[])).unwrap().contains("\nmended 2\n"));
+        assert!(String::from_utf8(place.done(&format!("dump {arena_in}"), &[])).unwrap().contains("\nmended 2\n"));
+        assert!(fs::read(place.path("arena")).unwrap() == arena[..]);
+        place.done(&format!("write {arena_in} 12"), &[9; 512]);
+        let mut handle = plain::open(&mut arena, &mut [0; 64], layout).unwrap().handle;
+        plain::write(&mut arena, &mut handle, 0, 12, &[9; 512]).unwrap();
+        assert!(fs::read(place.path("arena")).unwrap() == arena[..]);
     }
-    fs::write(place.path("arena"), &arena[..]).unwrap();
-    assert!(place.done("read arena 11", &[]) == [2; 512]);
-    assert!(String::from_utf8(place.done("report arena", &[])).unwrap().contains("\nmended 2\n"));
-    assert!(String::from_utf8(place.done("dump arena", &[])).unwrap().contains("\nmended 2\n"));
-    assert!(fs::read(place.path("arena")).unwrap() == arena[..]);
-    place.done("write arena 12", &[9; 512]);
-    let mut handle = plain::open(&mut arena, &mut [0; 64]).unwrap().handle;
-    plain::write(&mut arena, &mut handle, 0, 12, &[9; 512]).unwrap();
-    assert!(fs::read(place.path("arena")).unwrap() == arena[..]);
 }
 
 #[test]
@@ -340,9 +348,18 @@ fn help_and_usage() {
     let place = Place::new("help");
     assert!(String::from_utf8(place.done("--help", &[])).unwrap().contains("btt make FILE --bytes B"));
     assert_eq!(place.done("--version", &[]), format!("btt {}\n", env!("CARGO_PKG_VERSION")).as_bytes());
-    for line in
-        ["", "frob", "read arena", "read arena seven", "read arena +5", "make arena --size 512", "report arena --size 512"]
-    {
+    for line in [
+        "",
+        "frob",
+        "read arena",
+        "read arena seven",
+        "read arena +5",
+        "make arena --size 512",
+        "report arena --size 512",
+        "read arena 5 --layout 48",
+        "make arena --sectors 60 --layout 32",
+        "replay arena log --layout 16",
+    ] {
         let (status, out, said) = place.refused(line, &[]);
         assert_eq!((status, out.as_str()), (2, ""), "{line}");
         assert!(said.starts_with("btt: ") && said.contains("--help"));

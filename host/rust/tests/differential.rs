@@ -1,14 +1,14 @@
-//! The library against the plain program on many arenas, long and short, valid and damaged.
+//! The library against the plain program on many arenas, long and short, valid and damaged, of both layouts.
 mod support;
 
 use btt::Geometry;
 use support::both::Both;
 use support::chance::Chance;
-use support::{arenas, pending};
+use support::{arenas, other, pending, LAYOUTS, NO_LAYOUTS};
 
-/// Opens an arena, by openings that are cut at every place too, and reads and writes it if it opens. Gives opening's answer.
-fn tried(chance: &mut Chance, arena: &[u8]) -> u32 {
-    let both = Both::new(arena);
+/// Opens an arena in a layout, by openings that are cut at every place too, and reads and writes it if it opens. Gives opening's answer.
+fn tried(chance: &mut Chance, arena: &[u8], layout: u32) -> u32 {
+    let mut both = Both::new(arena);
     both.info_block();
     let figures = plain::info_block(arena).map(|at| plain::figures_of(&arena[at..at + 4096], arena.len()));
     let blocks = figures.map_or(0, |figures| figures.blocks.min(40_000) as usize);
@@ -19,19 +19,27 @@ fn tried(chance: &mut Chance, arena: &[u8]) -> u32 {
         _ => blocks,
     };
     let work = chance.bytes(room);
+    none_and_other(chance, &mut both, &work, layout);
     let mut opened = both.clone();
-    let number = opened.open(&work);
+    let number = opened.open(layout, &work);
     let mut cut = both;
     for _ in 0..chance.below(4) {
         let k = if chance.once_in(5) { chance.word() } else { chance.below(4) as u32 };
-        assert_eq!(cut.cut_open(&work, k), number);
+        assert_eq!(cut.cut_open(layout, &work, k), number);
     }
-    assert_eq!(cut.open(&work), number);
+    assert_eq!(cut.open(layout, &work), number);
     if number == 0 {
         assert!(cut.arena == opened.arena && cut.handle == opened.handle, "cut openings leave no trace");
         used(chance, &mut opened);
     }
     number
+}
+
+/// Openings in no layout, which are refused before all else, and a cut one in the other layout that stores nothing.
+fn none_and_other(chance: &mut Chance, both: &mut Both, work: &[u8], layout: u32) {
+    let none = if chance.once_in(4) { chance.word() | 1 } else { chance.pick(&NO_LAYOUTS) };
+    assert_eq!((both.open(none, work), both.cut_open(none, work, chance.below(4) as u32)), (16, 16));
+    both.cut_open(other(layout), work, 0);
 }
 
 /// Some calls on an opened arena.
@@ -59,10 +67,11 @@ fn valid_arenas_open() {
     let mut chance = Chance::new(11);
     let mut mended = 0;
     for _ in 0..3000 {
-        let arena = arenas::valid(&mut chance);
-        let number = tried(&mut chance, &arena);
+        let layout = arenas::layout(&mut chance);
+        let arena = arenas::valid(&mut chance, layout);
+        let number = tried(&mut chance, &arena, layout);
         assert!(number == 0 || number == 5);
-        mended += pending(&arena).unwrap();
+        mended += pending(&arena, layout).unwrap();
     }
     assert!(mended > 1000, "lanes were pending: {mended}");
 }
@@ -72,11 +81,26 @@ fn damaged_arenas_are_answered_alike() {
     let mut chance = Chance::new(12);
     let mut answers = [0; 19];
     for _ in 0..12_000 {
-        let mut arena = arenas::valid(&mut chance);
-        arenas::damage(&mut chance, &mut arena);
-        answers[tried(&mut chance, &arena) as usize] += 1;
+        let layout = arenas::layout(&mut chance);
+        let mut arena = arenas::valid(&mut chance, layout);
+        arenas::damage(&mut chance, &mut arena, layout);
+        answers[tried(&mut chance, &arena, layout) as usize] += 1;
     }
     assert!((0..=8).chain([18]).all(|number| answers[number] > 10), "every answer came: {answers:?}");
+}
+
+/// Told the other layout, an arena whose older halves are any bytes does not open: a lane is lost, or that half is padding.
+#[test]
+fn arenas_of_the_other_layout_are_refused_alike() {
+    let mut chance = Chance::new(16);
+    let mut answers = [0; 19];
+    for _ in 0..2000 {
+        let layout = arenas::layout(&mut chance);
+        let arena = arenas::valid(&mut chance, layout);
+        answers[tried(&mut chance, &arena, other(layout)) as usize] += 1;
+    }
+    assert!([5, 6, 18].into_iter().all(|number| answers[number] > 10), "{answers:?}");
+    assert_eq!(answers[5] + answers[6] + answers[18], 2000);
 }
 
 #[test]
@@ -86,7 +110,8 @@ fn random_bytes_are_answered_alike() {
     for length in lengths {
         for _ in 0..20 {
             let arena = chance.bytes(length);
-            assert_eq!(tried(&mut chance, &arena), if plain::length_allowed(length) { 2 } else { 1 });
+            let layout = arenas::layout(&mut chance);
+            assert_eq!(tried(&mut chance, &arena, layout), if plain::length_allowed(length) { 2 } else { 1 });
         }
     }
 }
@@ -96,16 +121,16 @@ fn long_arenas_are_answered_alike() {
     let mut chance = Chance::new(14);
     for length in [16_777_216, 16_777_220, 16_781_312] {
         let arena = vec![0; length];
-        assert_eq!(tried(&mut chance, &arena), if length == 16_777_216 { 2 } else { 1 });
+        assert_eq!(tried(&mut chance, &arena, 32), if length == 16_777_216 { 2 } else { 1 });
     }
     for geometry in [Geometry { size: 512, sectors: 2000, lanes: 16 }, Geometry { size: 4096, sectors: 500, lanes: 3 }] {
         let mut both = Both::new(&chance.bytes(geometry.made_length().unwrap() as usize));
         assert_eq!(both.make(geometry, &[1; 16], &[2; 16]), 0);
         let made = both.arena.to_vec();
         for _ in 0..40 {
-            let mut arena = made.clone();
-            arenas::damage(&mut chance, &mut arena);
-            tried(&mut chance, &arena);
+            let (mut arena, layout) = (made.clone(), arenas::layout(&mut chance));
+            arenas::damage(&mut chance, &mut arena, layout);
+            tried(&mut chance, &arena, layout);
         }
     }
 }
@@ -134,7 +159,7 @@ fn making_is_answered_alike() {
         let number = both.make(geometry, &own, &parent);
         answers[number as usize] += 1;
         assert!(geometry.made_length().is_none_or(|length| length == plain::made_figures(geometry).length));
-        assert!(number != 0 || both.open(&[9; 128]) == 0);
+        assert!(number != 0 || LAYOUTS.into_iter().all(|layout| both.open(layout, &[9; 128]) == 0));
     }
     assert!([0, 1, 3, 10].into_iter().all(|number| answers[number] > 20), "{answers:?}");
 }

@@ -3,15 +3,15 @@ mod support;
 
 use btt::{Geometry, Handle, HANDLE_SIZE, LANE_SIZE, MAX_LANES};
 use plain::{put_word, word};
-use support::arenas;
 use support::both::Both;
 use support::chance::Chance;
+use support::{arenas, other, LAYOUTS, NO_LAYOUTS};
 
-/// An opened arena with some writes in flight.
-fn opened(chance: &mut Chance, geometry: Geometry) -> Both {
+/// An arena that is opened in a layout, with some writes in flight.
+fn opened(chance: &mut Chance, geometry: Geometry, layout: u32) -> Both {
     let mut both = Both::new(&chance.bytes(geometry.made_length().unwrap() as usize));
     assert_eq!(both.make(geometry, &[1; 16], &[2; 16]), 0);
-    assert_eq!(both.open(&[0; 128]), 0);
+    assert_eq!(both.open(layout, &[0; 128]), 0);
     let buffer = chance.bytes(geometry.size as usize);
     for lane in (0..geometry.lanes).step_by(2) {
         assert_eq!(both.start(lane, geometry.sectors - 1 - lane), 0);
@@ -48,6 +48,7 @@ fn telling(handle: &Handle, found: u32) -> Vec<u32> {
         4,
         16,
         17,
+        32,
         512,
         4096,
         20_480,
@@ -62,8 +63,9 @@ fn telling(handle: &Handle, found: u32) -> Vec<u32> {
 #[test]
 fn every_word_of_a_handle_is_judged() {
     let mut chance = Chance::new(1);
-    for geometry in [Geometry { size: 512, sectors: 6, lanes: 3 }, Geometry { size: 512, sectors: 16, lanes: 16 }] {
-        let both = opened(&mut chance, geometry);
+    let geometries = [Geometry { size: 512, sectors: 6, lanes: 3 }, Geometry { size: 512, sectors: 16, lanes: 16 }];
+    for (geometry, layout) in geometries.into_iter().flat_map(|geometry| LAYOUTS.map(|layout| (geometry, layout))) {
+        let both = opened(&mut chance, geometry, layout);
         let buffer = chance.bytes(512);
         for place in 0..128 {
             let found = word(&both.handle.to_bytes(), 4 * place);
@@ -83,7 +85,7 @@ fn several_words_are_judged_together() {
     for round in 0..20 {
         let lanes = 1 + chance.below(16) as u32;
         let geometry = Geometry { size: 512, sectors: lanes + chance.below(9) as u32, lanes };
-        let both = opened(&mut chance, geometry);
+        let both = opened(&mut chance, geometry, LAYOUTS[round % 2]);
         for _ in 0..300 {
             let forged = forged_bytes(&both, |bytes| {
                 for _ in 0..1 + chance.below(3) {
@@ -106,7 +108,7 @@ fn several_words_are_judged_together() {
 #[test]
 fn random_bytes_are_no_handle() {
     let mut chance = Chance::new(3);
-    let both = opened(&mut chance, Geometry { size: 512, sectors: 6, lanes: 3 });
+    let both = opened(&mut chance, Geometry { size: 512, sectors: 6, lanes: 3 }, 16);
     for _ in 0..2000 {
         let forged = forged_bytes(&both, |bytes| chance.fill(bytes));
         assert_eq!(forged.every_call(0, 0, &[0; 512]), [16; 6]);
@@ -116,7 +118,7 @@ fn random_bytes_are_no_handle() {
 #[test]
 fn a_busy_word_is_0_or_1() {
     let mut chance = Chance::new(4);
-    let both = opened(&mut chance, Geometry { size: 512, sectors: 6, lanes: 3 });
+    let both = opened(&mut chance, Geometry { size: 512, sectors: 6, lanes: 3 }, 32);
     for lane in 0..16 {
         for busy in [2, 3, 0x100, 0x101, 1 << 31, u32::MAX] {
             let forged = forged(&both, |handle| handle.lane[lane].busy = busy);
@@ -126,20 +128,64 @@ fn a_busy_word_is_0_or_1() {
     }
 }
 
+/// Every call, with nothing else wrong and with each other number wrong too.
+fn every_call_in_every_way(both: &Both, lanes: u32, sectors: u32) -> Vec<[u32; 6]> {
+    let ways = [(0, 0, 512), (1, 0, 512), (lanes, 0, 512), (1, sectors, 512), (0, 0, 511), (u32::MAX, u32::MAX, 0)];
+    ways.into_iter().map(|(lane, sector, length)| both.every_call(lane, sector, &vec![3; length])).collect()
+}
+
 #[test]
-fn records_past_the_lanes_and_the_reserved_word_are_kept() {
+fn a_layout_is_16_or_32() {
+    let mut chance = Chance::new(7);
+    let (geometry, lanes, sectors) = (Geometry { size: 512, sectors: 6, lanes: 3 }, 3, 6);
+    for layout in LAYOUTS {
+        let both = opened(&mut chance, geometry, layout);
+        let before = every_call_in_every_way(&both, lanes, sectors);
+        for value in NO_LAYOUTS.into_iter().chain((0..300).map(|_| chance.word() | 1)) {
+            let forged = forged(&both, |handle| handle.layout = value);
+            assert!(every_call_in_every_way(&forged, lanes, sectors).into_iter().all(|found| found == [16; 6]), "{value}");
+        }
+        let exchanged = forged(&both, |handle| handle.layout = other(layout));
+        assert_eq!(every_call_in_every_way(&exchanged, lanes, sectors), before, "the other layout is not found out");
+    }
+}
+
+/// The calls go on with the distance that the handle says: of a write, only the places of the four flog words differ.
+#[test]
+fn an_exchanged_layout_moves_the_second_half() {
+    let mut chance = Chance::new(8);
+    let geometry = Geometry { size: 512, sectors: 6, lanes: 3 };
+    for layout in LAYOUTS {
+        let mut both = opened(&mut chance, geometry, layout);
+        while both.handle.lane[2].busy == 1 {
+            assert_eq!(both.step(2, &[6; 512]), 0);
+        }
+        both.handle.layout = other(layout);
+        for (lane, half) in [(1, 1), (1, 0), (2, 0), (2, 1)] {
+            assert_eq!(both.handle.lane[lane as usize].half, half);
+            assert_eq!(both.start(lane, 1), 0);
+            let record = both.handle.lane[lane as usize];
+            (0..133).for_each(|_| assert_eq!(both.step(lane, &[5; 512]), 0));
+            let at = (both.handle.flog + 64 * u64::from(lane) + u64::from(other(layout) * half)) as usize;
+            let stored = [0, 4, 8, 12].map(|part| word(&both.arena, at + part));
+            assert_eq!(stored, [1, record.old, record.block, record.sequence]);
+        }
+        assert_eq!(both.handle.layout, other(layout));
+    }
+}
+
+#[test]
+fn records_past_the_lanes_and_the_layout_are_kept() {
     let mut chance = Chance::new(5);
     let buffer = [7; 512];
     for lanes in [1, 2, 15] {
         let geometry = Geometry { size: 512, sectors: 40, lanes };
-        for _ in 0..30 {
-            let both = opened(&mut chance, geometry);
+        for round in 0..30 {
+            let layout = LAYOUTS[round % 2];
+            let both = opened(&mut chance, geometry, layout);
             let past = lanes as usize;
             let junk = Handle::from_bytes(&chance.bytes(HANDLE_SIZE).try_into().unwrap());
-            let mut both = forged(&both, |handle| {
-                handle.lane[past..].copy_from_slice(&junk.lane[past..]);
-                handle.reserved = junk.reserved;
-            });
+            let mut both = forged(&both, |handle| handle.lane[past..].copy_from_slice(&junk.lane[past..]));
             both.every_call(0, 3, &buffer);
             for lane in 0..lanes {
                 while both.handle.lane[lane as usize].busy == 1 {
@@ -148,7 +194,7 @@ fn records_past_the_lanes_and_the_reserved_word_are_kept() {
                 assert_eq!(both.write(lane, 20, &buffer), 0);
                 assert_eq!(both.start(lane, lane), 0);
             }
-            assert_eq!((&both.handle.lane[past..], both.handle.reserved), (&junk.lane[past..], junk.reserved));
+            assert_eq!((&both.handle.lane[past..], both.handle.layout), (&junk.lane[past..], layout));
         }
     }
 }
@@ -157,8 +203,11 @@ fn records_past_the_lanes_and_the_reserved_word_are_kept() {
 fn handles_of_other_arenas_are_answered() {
     let mut chance = Chance::new(6);
     for _ in 0..400 {
-        let [first, second] = [(), ()].map(|()| arenas::valid(&mut chance));
-        let handle = plain::open(&mut second.clone(), &mut [0; 128]).unwrap().handle;
+        let [(_, first), (layout, second)] = [(), ()].map(|()| {
+            let layout = arenas::layout(&mut chance);
+            (layout, arenas::valid(&mut chance, layout))
+        });
+        let handle = plain::open(&mut second.clone(), &mut [0; 128], layout).unwrap().handle;
         let length = chance.pick(&[512, 4096]);
         // As it is, and with the other's length, so that the handle's figures go for this arena's bytes.
         for arena in [&first[..], &[&first[..], &second[..]].concat()[..second.len()]] {

@@ -1,9 +1,9 @@
-//! Random histories of calls with power cuts, against the plain program and against a plain row of sectors.
+//! Random histories of calls with power cuts, in both layouts, against the plain program and against a plain row of sectors.
 mod support;
 
 use support::both::Both;
 use support::chance::Chance;
-use support::{arenas, pending};
+use support::{arenas, pending, NO_LAYOUTS};
 
 /// A write in flight: its lane, its sector, its bytes, and how many of its stores are made.
 #[derive(Clone)]
@@ -26,9 +26,11 @@ struct History {
 }
 
 impl History {
-    fn new(arena: &[u8]) -> History {
-        let mut both = Both::new(arena);
-        assert_eq!(both.open(&[0; 128]), 0);
+    /// Begins with an arena that is valid in a layout of its own.
+    fn new(chance: &mut Chance) -> History {
+        let layout = arenas::layout(chance);
+        let mut both = Both::new(&arenas::valid(chance, layout));
+        assert_eq!(both.open(layout, &[0; 128]), 0);
         let row = (0..both.handle.sectors).map(|sector| read(&both, sector)).collect();
         History { both, row, flight: Vec::new() }
     }
@@ -69,22 +71,26 @@ impl History {
         }
     }
 
-    /// The power goes: the handle is lost, and opening finishes the writes that lack only their map word.
+    /// The power goes: the handle is lost but for its layout, and opening finishes the writes that lack only their map word.
     fn cut(&mut self, chance: &mut Chance) {
-        let steps = self.both.handle.steps();
+        let (steps, layout) = (self.both.handle.steps(), self.both.handle.layout);
         for _ in 0..chance.below(3) {
-            assert_eq!(self.both.cut_open(&chance.bytes(128), chance.below(3) as u32), 0);
+            assert_eq!(self.both.cut_open(layout, &chance.bytes(128), chance.below(3) as u32), 0);
         }
         if chance.once_in(4) {
-            assert_eq!(self.both.cut_open(&[], 1), 5);
+            assert_eq!(self.both.cut_open(layout, &[], 1), 5);
         }
-        assert_eq!(self.both.open(&chance.bytes(128)), 0);
+        if chance.once_in(4) {
+            let (none, work) = (chance.pick(&NO_LAYOUTS), chance.bytes(128));
+            assert_eq!((self.both.cut_open(none, &work, chance.below(3) as u32), self.both.open(none, &work)), (16, 16));
+        }
+        assert_eq!(self.both.open(layout, &chance.bytes(128)), 0);
         for write in self.flight.drain(..) {
             if write.tally == steps - 1 {
                 self.row[write.sector as usize] = (0, write.bytes);
             }
         }
-        assert_eq!(pending(&self.both.arena), Ok(0), "every block is mapped or free, and none is pending");
+        assert_eq!(pending(&self.both.arena, layout), Ok(0), "every block is mapped or free, and none is pending");
     }
 
     fn check(&self, sector: u32) {
@@ -143,7 +149,7 @@ fn refused(chance: &mut Chance, history: &mut History) {
 fn histories_go_as_a_plain_row() {
     let mut chance = Chance::new(21);
     for _ in 0..300 {
-        let mut history = History::new(&arenas::valid(&mut chance));
+        let mut history = History::new(&mut chance);
         for _ in 0..60 {
             event(&mut chance, &mut history);
         }
@@ -158,7 +164,7 @@ fn histories_go_as_a_plain_row() {
 fn a_cut_at_every_store_of_mixed_writes_tears_nothing() {
     let mut chance = Chance::new(22);
     for _ in 0..24 {
-        let first = History::new(&arenas::valid(&mut chance));
+        let first = History::new(&mut chance);
         let handle = first.both.handle;
         let mut sectors: Vec<u32> = (0..handle.sectors).collect();
         chance.shuffle(&mut sectors);
@@ -198,17 +204,18 @@ fn cut_openings_end_as_one_opening() {
     let mut chance = Chance::new(23);
     let mut seen = 0;
     for _ in 0..300 {
-        let arena = arenas::valid(&mut chance);
+        let layout = arenas::layout(&mut chance);
+        let arena = arenas::valid(&mut chance, layout);
         let mut whole = Both::new(&arena);
-        assert_eq!(whole.open(&[0; 128]), 0);
-        let found = pending(&arena).unwrap();
+        assert_eq!(whole.open(layout, &[0; 128]), 0);
+        let found = pending(&arena, layout).unwrap();
         seen = seen.max(found);
         for k in 0..=found {
             let mut cut = Both::new(&arena);
-            cut.cut_open(&[0; 128], k);
-            assert_eq!(pending(&cut.arena), Ok(found - k));
-            cut.cut_open(&[0; 128], chance.below(3) as u32);
-            cut.open(&[0; 128]);
+            cut.cut_open(layout, &[0; 128], k);
+            assert_eq!(pending(&cut.arena, layout), Ok(found - k));
+            cut.cut_open(layout, &[0; 128], chance.below(3) as u32);
+            cut.open(layout, &[0; 128]);
             assert!(cut.arena == whole.arena && cut.handle == whole.handle);
         }
     }

@@ -1,7 +1,7 @@
 //! The command killed in the middle of writing: the sector is old or new, and the file opens.
 mod support;
 
-use btt::MAX_BLOCKS;
+use btt::{Layout, MAX_BLOCKS};
 use std::fs;
 use std::thread::sleep;
 use std::time::{Duration, Instant};
@@ -12,9 +12,9 @@ use support::place::Place;
 const SECTORS: u32 = 20;
 
 /// What every sector of an arena reads, opened in memory.
-fn row(arena: &[u8]) -> Vec<Vec<u8>> {
+fn row(arena: &[u8], layout: u32) -> Vec<Vec<u8>> {
     let mut arena = arena.to_vec();
-    let handle = plain::open(&mut arena, &mut [0; MAX_BLOCKS]).expect("the file opens").handle;
+    let handle = plain::open(&mut arena, &mut [0; MAX_BLOCKS], layout).expect("the file opens").handle;
     let read = |sector| {
         let mut buffer = vec![0; 4096];
         plain::read(&arena, &handle, sector, &mut buffer).unwrap();
@@ -25,31 +25,36 @@ fn row(arena: &[u8]) -> Vec<Vec<u8>> {
 
 #[test]
 fn a_killed_write_leaves_the_old_sector_or_the_new() {
-    let place = Place::new("killed");
-    let mut chance = Chance::new(51);
+    Layout::ALL.into_iter().for_each(|layout| killed_in(layout.bytes()));
+}
+
+/// Kills writes to an arena of a layout at random moments.
+fn killed_in(layout: u32) {
+    let place = Place::new(&format!("killed-{layout}"));
+    let mut chance = Chance::new(51 + u64::from(layout));
     place.done(&format!("make arena --size 4096 --sectors {SECTORS} --lanes 3"), &[]);
     let file = place.path("arena");
     let began = Instant::now();
-    place.done("write arena 0", &[1; 4096]);
+    place.done(&format!("write arena 0 --layout {layout}"), &[1; 4096]);
     let whole = began.elapsed().as_micros() as usize;
-    let mut expected = row(&fs::read(&file).unwrap());
+    let mut expected = row(&fs::read(&file).unwrap(), layout);
     let [mut killed, mut middle, mut lanes] = [0u32; 3];
-    for _ in 0..300 {
+    for _ in 0..150 {
         let before = fs::read(&file).unwrap();
         let sector = chance.below(SECTORS as usize);
         let bytes = chance.bytes(4096);
-        let mut child = place.begin(&format!("write arena {sector}"), &bytes);
+        let mut child = place.begin(&format!("write arena {sector} --layout {layout}"), &bytes);
         sleep(Duration::from_micros(chance.below(whole + whole / 4) as u64));
         child.kill().unwrap();
         killed += u32::from(!child.wait().unwrap().success());
         let after = fs::read(&file).unwrap();
-        let found = row(&after);
+        let found = row(&after, layout);
         let is_new = found[sector] == bytes;
         assert!(is_new || found[sector] == expected[sector], "old or new");
         expected[sector] = found[sector].clone();
         assert!(found == expected, "the other sectors are unchanged");
         middle += u32::from(after != before && !is_new);
-        lanes += pending(&after).unwrap();
+        lanes += pending(&after, layout).unwrap();
     }
     println!("{killed} killed, {middle} with stores made and the sector old, {lanes} pending lanes found");
     assert!(killed > 0);

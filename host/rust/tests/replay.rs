@@ -13,7 +13,7 @@ use support::{arenas, made, GEOMETRY};
 
 /// The figures of an arena that opens.
 fn figures(arena: &[u8]) -> btt::Handle {
-    plain::open(&mut arena.to_vec(), &mut [0; MAX_BLOCKS]).unwrap().handle
+    plain::open(&mut arena.to_vec(), &mut [0; MAX_BLOCKS], 16).unwrap().handle
 }
 
 /// A replay on the arena of the worked cases, and the arena after it.
@@ -28,7 +28,7 @@ fn logs_are_answered_alike() {
     let mut chance = Chance::new(61);
     let (mut answers, mut stops) = ([0; 21], 0);
     for _ in 0..600 {
-        let arena = arenas::valid(&mut chance);
+        let arena = arenas::valid(&mut chance, 16);
         let figures = figures(&arena);
         let mut log = well_formed(&mut chance, &figures);
         if chance.once_in(2) {
@@ -50,9 +50,9 @@ fn damaged_arenas_are_refused_alike() {
     let mut chance = Chance::new(62);
     let mut answers = [0; 19];
     let log = [write(0, 0, 132), cut(), start(1, 1), vec![0]].concat();
-    for _ in 0..1500 {
-        let mut arena = arenas::valid(&mut chance);
-        arenas::damage(&mut chance, &mut arena);
+    for _ in 0..4000 {
+        let mut arena = arenas::valid(&mut chance, 16);
+        arenas::damage(&mut chance, &mut arena, 16);
         let replay = Both::new(&arena).replay(&log, &chance.bytes(128), &chance.bytes(200));
         answers[support::number(&replay) as usize] += 1;
     }
@@ -72,6 +72,18 @@ fn a_sloppy_arena_is_refused_and_left() {
             assert!(both.arena == arena, "nothing is mended and nothing ran");
         }
     }
+}
+
+/// A replay opens in layout 16 and in no other: what it writes opens there only, and an arena of the other layout is refused.
+#[test]
+fn a_replay_is_of_one_layout() {
+    let (_, mut both) = replayed(&[write(2, 11, 132), cut(), write(2, 12, 5)].concat());
+    assert_eq!((both.clone().open(32, &[0; 64]), both.open(16, &[0; 64])), (18, 0));
+    let mut far = Both::new(&made(GEOMETRY));
+    assert_eq!((far.open(32, &[0; 64]), far.write(2, 11, &[5; 512])), (0, 0));
+    let before = far.arena.clone();
+    assert_eq!(far.replay(&cut(), &[9; 64], &[9; 5]), Err(Answer::Sloppy));
+    assert!(far.arena == before);
 }
 
 #[test]
@@ -154,11 +166,11 @@ fn the_command_tells_a_replay_and_changes_no_file() {
     let mut chance = Chance::new(63);
     let mut ends = [0; 2];
     for _ in 0..60 {
-        let mut arena = arenas::valid(&mut chance);
+        let mut arena = arenas::valid(&mut chance, 16);
         let mut log = well_formed(&mut chance, &figures(&arena));
         match chance.below(3) {
             0 => damage(&mut chance, &mut log),
-            1 => arenas::damage(&mut chance, &mut arena),
+            1 => arenas::damage(&mut chance, &mut arena, 16),
             _ => {}
         }
         fs::write(place.path("image"), &arena).unwrap();

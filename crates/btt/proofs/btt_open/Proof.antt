@@ -25,7 +25,7 @@ returns : tie.Need-returns
 returns c =
     let o = c .before .before .before .before .before .before .before .before .«open» in
     let t = fails (c .before .before .is-done .ensures) (c .before .if1 .taken) in
-    open-refused _ _ (o .result) _ _ (o .ensures) _ (c .number .ensures) t _ refl
+    open-refused _ _ _ (o .result) _ _ (o .ensures) _ (c .number .ensures) t _ refl
 
 put-handle-requires : tie.Need-put-handle-requires
 put-handle-requires c κs = search needs
@@ -43,7 +43,7 @@ returns-2 : tie.Need-returns-2
 returns-2 c =
     let i = c .before .before .before in
     let o = i .before .before .before .before .before .before .before .«open» in
-    open-done _ _ (o .result) _ _ (o .ensures) _ (c .number2 .ensures) (passes (i .before .is-done .ensures) (i .if1 .left)) _
+    open-done _ _ _ (o .result) _ _ (o .ensures) _ (c .number2 .ensures) (passes (i .before .is-done .ensures) (i .if1 .left)) _
     (c .before .put-handle .ensures)
 
 pub btt-open-spec : {M : Type 1} → statement M

@@ -1,6 +1,7 @@
--- `cases::p_cases` meets its contract: the values of cases 1 to 5 are computed but for the refused word of case 3, which is exhibited, and cases 6
--- to 8 are proved in `Pending`.
+-- `cases::p_cases` meets its contract: the values of cases 1 to 5 and the bytes of case 9 are computed but for the refused word of case 3, which is
+-- exhibited, and cases 6 to 8 are proved in `Pending`.
 use mathlib.Core.Path.{refl}
+use mathlib.Core.Logic.{inl, inr}
 use mathlib.Core.List.{List, [], _∷_, _++_}
 use Prim.Native.Nat.{ℕ}
 use native.Mathlib.Omega.{arith}
@@ -9,10 +10,13 @@ use Rattle.fletcher.specs.Fletcher.{added, addedAll, fletcher64}
 use Rattle.format.specs.Sequence.{successor, newer}
 use Rattle.format.specs.MapWord.{blockOf}
 use Rattle.layout.specs.Figures.{freshFigures, freshLength}
+use Rattle.layout.specs.Claims.{Distance}
+use Rattle.layout.specs.Place.{layoutOf}
+use Rattle.machine.specs.calls.Writing.{storeAt}
 use Rattle.machine.proofs.exhibit.Run.{exhibited}
 use Rattle.cases.specs.Worked.{Worked, AllDue}
 use Rattle.cases.specs.Pending.{case6, case7, case8}
-use Rattle.cases.specs.Table.{case1, case2, case3, case3-refused, case3-bits, case4, case4-turns, case5, table}
+use Rattle.cases.specs.Table.{case1, case2, case3, case3-refused, case3-bits, case4, case4-turns, case5, case9-bytes, table}
 use Rattle.cases.proofs.Pending.{cases-6-and-7, case-8}
 use Rattle.cases.proofs.p_cases.Statement.{statement}
 use Rattle.cases.proofs.p_cases.Tie as tie
@@ -27,22 +31,40 @@ unfolding added addedAll fletcher64 successor newer blockOf freshFigures freshLe
 computed = (refl, (refl, (refl, (refl, (refl, (refl, (refl, (refl, (refl, (refl, (refl, (refl, (refl, (refl, (refl, (refl, (refl, (refl, (refl, (refl, (refl, (refl, (refl, (refl, (refl, (refl, (refl, (refl, (refl, (refl, (refl, (refl, (refl, (refl, (refl, (refl, (refl, (refl, (refl, (refl, (refl, (refl, (refl, (refl, tt))))))))))))))))))))))))))))))))))))))))))))
 
 -- case 3's refused word is that of the exhibited arena
-refused : AllDue case3-refused
-refused =
+refused : (d : ℕ) → Distance d → AllDue (case3-refused d)
+refused d w =
     let size = length-replicate {A = ℕ} 512 0 in
-    (exhibited .sloppy .word, (exhibited .sloppy .read (replicate 512 0) size, (exhibited .sloppy .start, (exhibited .sloppy .write (replicate 512 0) size, tt))))
+    let k = exhibited d w .sloppy in
+    (k .word, (k .read (replicate 512 0) size, (k .start, (k .write (replicate 512 0) size, tt))))
 
-all-due : AllDue table
-unfolding table newer successor
-all-due =
+-- case 9's bytes
+stored : AllDue (case9-bytes 16 40976) × AllDue (case9-bytes 32 40992)
+unfolding layoutOf freshFigures storeAt
+stored = ((refl, (refl, (refl, (refl, (refl, (refl, (refl, tt))))))), (refl, (refl, (refl, (refl, (refl, (refl, (refl, tt))))))))
+
+abbrev plain : List Worked
+plain = case1 ++ (case2 ++ (case3 ++ (case3-bits ++ (case4 ++ (case4-turns ++ case5)))))
+
+abbrev pendings : List Worked
+pendings = case6 1 ++ (case6 0 ++ (case7 1 ++ (case7 0 ++ case8)))
+
+pendings-due : AllDue pendings
+unfolding newer successor
+pendings-due =
     let p = cases-6-and-7 1 (omega arith) refl in
     let q = cases-6-and-7 0 (omega arith) refl in
-    append (case1 ++ (case2 ++ (case3 ++ (case3-bits ++ (case4 ++ (case4-turns ++ case5))))))
-    (case3-refused ++ (case6 1 ++ (case6 0 ++ (case7 1 ++ (case7 0 ++ case8))))) computed
-    (append case3-refused (case6 1 ++ (case6 0 ++ (case7 1 ++ (case7 0 ++ case8)))) refused
-    (append (case6 1) (case6 0 ++ (case7 1 ++ (case7 0 ++ case8))) (p .0)
+    append (case6 1) (case6 0 ++ (case7 1 ++ (case7 0 ++ case8))) (p .0)
     (append (case6 0) (case7 1 ++ (case7 0 ++ case8)) (q .0)
-    (append (case7 1) (case7 0 ++ case8) (p .1) (append (case7 0) case8 (q .1) case-8)))))
+    (append (case7 1) (case7 0 ++ case8) (p .1) (append (case7 0) case8 (q .1) case-8)))
+
+all-due : AllDue table
+unfolding table
+all-due =
+    append plain (case9-bytes 16 40976 ++ (case9-bytes 32 40992 ++ (case3-refused 16 ++ (case3-refused 32 ++ pendings)))) computed
+    (append (case9-bytes 16 40976) (case9-bytes 32 40992 ++ (case3-refused 16 ++ (case3-refused 32 ++ pendings))) (stored .0)
+    (append (case9-bytes 32 40992) (case3-refused 16 ++ (case3-refused 32 ++ pendings)) (stored .1)
+    (append (case3-refused 16) (case3-refused 32 ++ pendings) (refused 16 (inl refl))
+    (append (case3-refused 32) pendings (refused 32 (inr refl)) pendings-due))))
 
 returns : tie.Need-returns
 returns c = all-due

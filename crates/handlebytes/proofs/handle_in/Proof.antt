@@ -54,13 +54,16 @@ figures-at-requires c κs = search needs
 long-at-requires : tie.Need-long-at-requires Inv-loop μ-loop
 long-at-requires c κs = search needs
 
+word-at-requires : tie.Need-word-at-requires Inv-loop μ-loop
+word-at-requires c κs = search needs
+
 returns : tie.Need-returns Inv-loop μ-loop
 unfolding decodeHandle
 returns c =
-    let f = c .before .before in
+    let f = c .before .before .before .before in
     let x = f .before .before .before .loop in
     let e : x .l ≡ 16 = omega arith in
-    rw (x .inv .1, e, f .figures-at .ensures, c .long-at .ensures, partly-all)
+    rw (x .inv .1, e, f .figures-at .ensures, c .before .before .long-at .ensures, c .word-at .ensures, partly-all)
 
 pub handle-in-spec : {M : Type 1} → statement M
 handle-in-spec =
@@ -80,4 +83,5 @@ handle-in-spec =
     loop-again
     figures-at-requires
     long-at-requires
+    word-at-requires
     returns)

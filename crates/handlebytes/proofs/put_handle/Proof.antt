@@ -27,7 +27,7 @@ put-figures-requires c κs = search needs
 loop-holds : tie.Need-loop-holds Inv-loop μ-loop
 loop-holds c =
     let s = c .before .before .before .before .before .before in
-    (search needs, unmapped _ (s .args .t2 .lanes) 16 (s .good .1 .0 .1 .1 .1 .1 .0 .1 .0 .1), stored-none _ _)
+    (search needs, unmapped _ (s .args .t2 .lanes) 16 (s .good .1 .0 .1 .1 .1 .1 .1 .0 .1 .0 .1), stored-none _ _)
 
 mul-r : tie.Need-mul-r Inv-loop μ-loop
 mul-r c = search needs
@@ -61,7 +61,7 @@ returns c =
     let x = c .before in
     let e : x .loop .l ≡ 16 = omega arith in
     let f = x .before in
-    rw (x .loop .inv .2, e, f .put-figures .ensures, f .before .before .before .put-starts .ensures) (three-runs _ _ _ _)
+    rw (x .loop .inv .2, e, f .put-figures .ensures, f .before .before .before .put-starts .ensures) (three-runs _ _ _ _ _)
 
 pub put-handle-spec : {M : Type 1} → statement M
 put-handle-spec =

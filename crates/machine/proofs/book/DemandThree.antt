@@ -37,22 +37,20 @@ use Rattle.machine.proofs.book.TakenApart.{ComesTo, apart-alike, lends-
 use Rattle.machine.proofs.book.OneByOne.{perm-in, perm-differ, one-by-one}
 use Rattle.layout.specs.Told.{alone}
 use Rattle.layout.specs.declared.Told.{Told}
-use Rattle.machine.proofs.opening.Described.{told-alone}
-use Rattle.machine.specs.state.Handle.{ToldOk}
 
-module _ (τ : Told) (told : ToldOk τ) where
+module _ (τ : Told) where
   -- an arena that was opened, after any history
   ready-held : (x : State) → Ready τ x → HeldIn τ x
-  ready-held x r = rw (r .reached ∙ latest-state τ told (r .history) (openedFrom τ (r .found) (r .work)) (r .harmless))
-      (held-events τ told (openedFrom τ (r .found) (r .work)) (latestOf (r .history)) (r .small-history)
-      (held-open τ told (r .found) (r .work) (r .small) (r .opens)))
+  ready-held x r = rw (r .reached ∙ latest-state τ (r .history) (openedFrom τ (r .found) (r .work)) (r .harmless))
+      (held-events τ (openedFrom τ (r .found) (r .work)) (latestOf (r .history)) (r .small-history)
+      (held-open τ (r .found) (r .work) (r .small) (r .opens)))
 
   module _ (x : State) (k : HeldIn τ x) (idle : AllIdle (x .handle)) (bytes : ℕ → List ℕ) where
     first : FirstArena τ (x .arena)
-    first = first-arena τ told (x .arena) (x .handle) k idle
+    first = first-arena τ (x .arena) (x .handle) k idle
 
-    begin : Sim τ told (x .arena) bytes [] x
-    begin = sim-start τ told (x .arena) (x .handle) bytes k idle
+    begin : Sim τ (x .arena) bytes [] x
+    begin = sim-start τ (x .arena) (x .handle) bytes k idle
 
     -- a list whose writes share no lane and no sector and lend their bytes
     record Fair (cs : List Call) : Type 0 where
@@ -68,18 +66,18 @@ module _ (τ : Told) (told : ToldOk τ) where
     }
 
     follow : (cs : List Call) → Fair cs
-        → (replies x cs ≡ bookReplies τ (x .arena) bytes [] cs) × Sim τ told (x .arena) bytes (bookAfter τ (x .arena) [] cs) (run x cs)
-    follow cs f = sim-run τ told (x .arena) bytes first cs [] x begin (f .small) (f .lent) (f .differ) (λ d e m. absurd (List·Memᴰ·not-nil m))
+        → (replies x cs ≡ bookReplies τ (x .arena) bytes [] cs) × Sim τ (x .arena) bytes (bookAfter τ (x .arena) [] cs) (run x cs)
+    follow cs f = sim-run τ (x .arena) bytes first cs [] x begin (f .small) (f .lent) (f .differ) (λ d e m. absurd (List·Memᴰ·not-nil m))
 
     as-booked : (p : List Call) → Fair p → AsBooked τ x bytes p
     as-booked p f =
         let r = follow p f in
-        record { answers = r .0; arena = λ stores s. r .1 .arena ∙ kept-order τ told (x .arena) bytes first (bookAfter τ (x .arena) [] p) (r .1 .ok) stores s }
+        record { answers = r .0; arena = λ stores s. r .1 .arena ∙ kept-order τ (x .arena) bytes first (bookAfter τ (x .arena) [] p) (r .1 .ok) stores s }
 
     cut-anywhere : (p : List Call) → Fair p → (work : List ℕ) → (figuresIn (x .arena)) .blocks ≤ length work
         → AfterCut τ (x .arena) (x .handle) bytes ((run x p) .arena) (bookAfter τ (x .arena) [] p) work
     cut-anywhere p f work room =
-        after-cut τ told (x .arena) bytes first (bookAfter τ (x .arena) [] p) (run x p) (follow p f .1) (x .handle) k work room
+        after-cut τ (x .arena) bytes first (bookAfter τ (x .arena) [] p) (run x p) (follow p f .1) (x .handle) k work room
 
     finished : (cs : List Call) → Fair cs
         → ((e : Entry) → List·Memᴰ e (bookAfter τ (x .arena) [] cs) → e .tally ≡ writeStores (layoutIn τ (x .arena)))
@@ -87,13 +85,13 @@ module _ (τ : Told) (told : ToldOk τ) where
     finished cs f full ws p =
         let z = follow cs f .1 in
         let b = bookAfter τ (x .arena) [] cs in
-        let w = one-by-one τ told (x .arena) bytes first ws [] x begin (λ e m. absurd (List·Memᴰ·not-nil m))
+        let w = one-by-one τ (x .arena) bytes first ws [] x begin (λ e m. absurd (List·Memᴰ·not-nil m))
         (λ e m. (z .ok .each e (perm-in p e m), full e (perm-in p e m))) (perm-differ (Permᴰ·symm p) (z .ok .differ))
         (λ d e m. absurd (List·Memᴰ·not-nil m)) in
         record {
           answers = w .answers;
-          arena = w .sim .arena ∙ sym (z .arena ∙ kept-order τ told (x .arena) bytes first b (z .ok) (kept τ (x .arena) bytes (w .book))
-              (kept-same τ told (x .arena) bytes (w .book) b (record {
+          arena = w .sim .arena ∙ sym (z .arena ∙ kept-order τ (x .arena) bytes first b (z .ok) (kept τ (x .arena) bytes (w .book))
+              (kept-same τ (x .arena) bytes (w .book) b (record {
                 to = λ e m. perm-in p e (⊎-elim (λ n. absurd (List·Memᴰ·not-nil n)) (λ n. n) (w .to e m));
                 from = λ e m. w .from e (inr (perm-in (Permᴰ·symm p) e m));
               })));
@@ -102,7 +100,7 @@ module _ (τ : Told) (told : ToldOk τ) where
   demand-three-promised : (x : State) (cs : List Call) (bytes : ℕ → List ℕ) → Listed τ x cs bytes → Promised τ x cs bytes
   demand-three-promised x cs bytes l = record {
     booked = λ p rest e. as-booked x k idle bytes p (fair-left x k idle bytes p rest cs e fair);
-    share-none = share-none τ told (x .arena) bytes (first x k idle bytes) (bookAfter τ (x .arena) [] cs) (follow x k idle bytes cs fair .1 .ok);
+    share-none = share-none τ (x .arena) bytes (first x k idle bytes) (bookAfter τ (x .arena) [] cs) (follow x k idle bytes cs fair .1 .ok);
     finished = finished x k idle bytes cs fair;
     whole = apart .state;
     cut-booked = λ p rest e. as-booked x k idle bytes p (fair-left x k idle bytes p rest parts e fair-parts);
@@ -128,4 +126,4 @@ module _ (τ : Told) (told : ToldOk τ) where
       fair-parts = record { small = apart .small (l .small); differ = rw (apart .begins) (l .differ); lent = apart .lent (l .same-bytes) }
 
 pub demand-three : DemandThree
-demand-three = record { promised = demand-three-promised alone told-alone; beside = beside-list alone told-alone }
+demand-three = record { promised = λ d. demand-three-promised (alone d); beside = λ d. beside-list (alone d) }

@@ -10,7 +10,7 @@ use Rattle.format.specs.Sequence.{successor}
 use Rattle.format.specs.MapWord.{badWord}
 use Rattle.layout.specs.Place.{Layout, LayoutOk}
 use Rattle.machine.specs.declared.lane.Lane.{Lane}
-use Rattle.machine.specs.state.Handle.{Handle, laneAt, ToldOk}
+use Rattle.machine.specs.state.Handle.{Handle, laneAt}
 use Rattle.machine.specs.state.Lane.{idleLane, isBusy}
 use Rattle.machine.specs.state.Flog.{mapWord, mapBlock, newerWord, freeOf}
 use Rattle.machine.specs.calls.Opening.{figuresIn, layoutIn, foundLane, handleFor, openOf}
@@ -46,12 +46,12 @@ module _ (τ : Told) where
     pub idle : isBusy r ≡ false
     pub is : foundLane (layoutIn τ a) a l ≡ idleLane (r .block .0) (r .half) (r .sequence .0)
 
-module _ (τ : Told) (told : ToldOk τ) where
+module _ (τ : Told) where
   -- rule 7 does not apply to its map
   pub first-word : (a : List ℕ) → FirstArena τ a → (s : ℕ) → s < (figuresIn a) .sectors
       → badWord ((figuresIn a) .blocks) (mapWord (layoutIn τ a) a s) ≡ false
   unfolding handleFor
-  first-word a x s u = held-word τ told a (handleFor τ a) (x .handle) s u
+  first-word a x s u = held-word τ a (handleFor τ a) (x .handle) s u
 
   pub held-inv : (a : List ℕ) (h : Handle) → Held τ a h → Inv (layoutIn τ a) a (h .lanes)
   held-inv a h k = rw (k .good .distance, k .good .figures) (k .good .inv)
@@ -64,7 +64,7 @@ module _ (τ : Told) (told : ToldOk τ) where
 
     -- opening it gives its handle and makes no store
     first-handle : Held τ a (handleFor τ a)
-    first-handle = go (good-number τ told a (h .distance) (h .figures) (h .lanes) (k .good) work room)
+    first-handle = go (good-number τ a (h .distance) (h .figures) (h .lanes) (k .good) work room)
       where
         work : List ℕ
         work = replicate (h .figures .blocks) 0
@@ -73,10 +73,10 @@ module _ (τ : Told) (told : ToldOk τ) where
         room = omega (arith, length-replicate {A = ℕ} (h .figures .blocks) 0)
 
         same : (openOf τ a work) .arena ≡ a
-        same = idle-arena τ told a (h .distance) (h .figures) (h .lanes) (k .good) work room (λ l u. word-idle (laneAt (h .lanes) l) (idle l (lanes-out (h .distance) (h .figures) l u)))
+        same = idle-arena τ a (h .distance) (h .figures) (h .lanes) (k .good) work room (λ l u. word-idle (laneAt (h .lanes) l) (idle l (lanes-out (h .distance) (h .figures) l u)))
 
         go : (openOf τ a work) .number ≡ 0 → Held τ a (handleFor τ a)
-        go e = rw (same, opened-handle τ told a work e) at (held-open τ told a work (k .good .inv .arena .bytes .small) e)
+        go e = rw (same, opened-handle τ a work e) at (held-open τ a work (k .good .inv .arena .bytes .small) e)
 
     pub first-arena : FirstArena τ a
     first-arena =
@@ -84,7 +84,7 @@ module _ (τ : Told) (told : ToldOk τ) where
         let i = held-inv a h k in
         record {
           ok = i .ok;
-          whole = rw (k .good .distance, k .good .figures) (held-whole τ told a h k);
+          whole = rw (k .good .distance, k .good .figures) (held-whole τ a h k);
           arena = i .arena;
           map-in = i .map-in;
           free-in = λ l u. rw (ap (λ (r : Lane). r .block .0) (first-found l u .is)) (i .lane l u .block-in);

@@ -14,7 +14,7 @@ use Rattle.format.specs.Sequence.{successor}
 use Rattle.format.proofs.Tests.{by-bool, and-elim, some-intro, some-found}
 use Rattle.machine.specs.declared.lane.Lane.{Lane}
 use Rattle.machine.specs.state.Lane.{idleLane, startedLane, laneAfter, writeStores, isBusy}
-use Rattle.machine.specs.state.Handle.{laneAt, ToldOk}
+use Rattle.machine.specs.state.Handle.{laneAt}
 use Rattle.machine.specs.state.Flog.{mapBlock}
 use Rattle.machine.specs.calls.Opening.{layoutIn, foundLane}
 use Rattle.machine.specs.calls.Judging.{inFlight}
@@ -36,7 +36,7 @@ module _ (τ : Told) (a : List ℕ) where
   laneThen [] l = foundLane (layoutIn τ a) a l
   laneThen (e ∷ b) l = cond (eqb (e .lane) l && leb (writeStores (layoutIn τ a)) (e .tally + 1)) (movedOn e) (laneThen b l)
 
-module _ (τ : Told) (told : ToldOk τ) where
+module _ (τ : Told) where
   module _ (a : List ℕ) where
     -- a write in flight
     abbrev pub flyingLane : Entry → Lane

@@ -28,7 +28,7 @@ use Rattle.format.proofs.Tests.{true-false, by-bool, and-elim}
 use Rattle.layout.specs.Place.{Layout, inMap}
 use Rattle.machine.specs.declared.lane.Lane.{Lane}
 use Rattle.machine.specs.state.Lane.{writeStores}
-use Rattle.machine.specs.state.Handle.{laneAt, ToldOk}
+use Rattle.machine.specs.state.Handle.{laneAt}
 use Rattle.machine.specs.state.Stores.{Store}
 use Rattle.machine.specs.state.Flog.{freeOf, pending}
 use Rattle.machine.specs.calls.Opening.{layoutIn, mends, pendingLanes, count}
@@ -78,7 +78,7 @@ pending-count g a (suc n) = ap₂ (λ x y. x + y) (pending-count g a n) (one (pe
     one true = refl
     one false = refl
 
-module _ (τ : Told) (told : ToldOk τ) where
+module _ (τ : Told) where
   module _ (a : List ℕ) where
     -- the map word of a write
     abbrev pub lastOf : Entry → Store
@@ -105,9 +105,9 @@ module _ (τ : Told) (told : ToldOk τ) where
     lacks-flies : (e : Entry) → lacksMapWord τ a e ≡ true → inFlightYet τ a e ≡ true
     lacks-flies e t = lt-ltb (e .tally) (writeStores (layoutIn τ a)) (omega (arith, eqb-true (e .tally + 1) (writeStores (layoutIn τ a)) t))
 
-    with-ended : (e : Entry) → ended (layoutIn τ a) (laneWith τ told a e) ≡ lacksMapWord τ a e
-    with-ended e = by-bool (inFlightYet τ a e) _ (λ t. rw (lane-flying τ told a e t) (sym (last-next (e .tally) ((layoutIn τ a) .W))))
-        (λ t. rw (lane-moved τ told a e t) (ne-eqb 0 ((layoutIn τ a) .W + 4) (λ p. omega arith)
+    with-ended : (e : Entry) → ended (layoutIn τ a) (laneWith τ a e) ≡ lacksMapWord τ a e
+    with-ended e = by-bool (inFlightYet τ a e) _ (λ t. rw (lane-flying τ a e t) (sym (last-next (e .tally) ((layoutIn τ a) .W))))
+        (λ t. rw (lane-moved τ a e t) (ne-eqb 0 ((layoutIn τ a) .W + 4) (λ p. omega arith)
         ∙ sym (by-bool (lacksMapWord τ a e) _ (λ v. true-false (sym (lacks-flies e v) ∙ t)) (λ v. v))))
 
     -- counted by lanes
@@ -136,11 +136,11 @@ module _ (τ : Told) (told : ToldOk τ) where
         after false = unfold hit in (rw (eq-eqb (e .lane) (e .lane) refl, none))
 
     module _ (b : List Entry) (f : Differ b) (A : List ℕ) (lanes : List Lane) (i : Inv (layoutIn τ a) A lanes)
-        (at : (l : ℕ) → l < (layoutIn τ a) .N → LaneOf τ told a b l (laneAt lanes l)) (lane-in : (e : Entry) → List·Memᴰ e b → e .lane < (layoutIn τ a) .N) where
+        (at : (l : ℕ) → l < (layoutIn τ a) .N → LaneOf τ a b l (laneAt lanes l)) (lane-in : (e : Entry) → List·Memᴰ e b → e .lane < (layoutIn τ a) .N) where
       ended-is : (l : ℕ) → l < (layoutIn τ a) .N → ended (layoutIn τ a) (laneAt lanes l) ≡ laneLacks b l
       ended-is l u = go (laneAt lanes l) (i .lane l u) (at l u)
         where
-          go : (r : Lane) → LaneInv (layoutIn τ a) A l r → LaneOf τ told a b l r → ended (layoutIn τ a) r ≡ laneLacks b l
+          go : (r : Lane) → LaneInv (layoutIn τ a) A l r → LaneOf τ a b l r → ended (layoutIn τ a) r ≡ laneLacks b l
           go r w (untouched x n) = idle-ended (layoutIn τ a) A l r w (x .idle) ∙ sym (lane-none (lacksMapWord τ a) b l n)
           go r w (written e m p is) = ap (ended (layoutIn τ a)) is ∙ with-ended e ∙ sym (rw (← p) (lane-test (lacksMapWord τ a) b f e m))
 
@@ -148,8 +148,8 @@ module _ (τ : Told) (told : ToldOk τ) where
       pub mends-last : SameMembers (mends (layoutIn τ a) A ((layoutIn τ a) .N)) (lastWords τ a b)
       mends-last = rw (mends-are (layoutIn τ a) A lanes i ((layoutIn τ a) .N) (omega arith)) (record { to = to; from = from })
         where
-          lane-is : (e : Entry) → List·Memᴰ e b → lacksMapWord τ a e ≡ true → laneAt lanes (e .lane) ≡ flyingLane τ told a e
-          lane-is e m t = lane-at τ told a b f e m (laneAt lanes (e .lane)) (at (e .lane) (lane-in e m)) ∙ lane-flying τ told a e (lacks-flies e t)
+          lane-is : (e : Entry) → List·Memᴰ e b → lacksMapWord τ a e ≡ true → laneAt lanes (e .lane) ≡ flyingLane τ a e
+          lane-is e m t = lane-at τ a b f e m (laneAt lanes (e .lane)) (at (e .lane) (lane-in e m)) ∙ lane-flying τ a e (lacks-flies e t)
 
           to : (st : Store) → List·Memᴰ st (finals (layoutIn τ a) lanes ((layoutIn τ a) .N)) → List·Memᴰ st (lastWords τ a b)
           to st m =

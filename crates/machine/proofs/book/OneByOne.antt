@@ -40,7 +40,6 @@ use Rattle.machine.proofs.book.Sim.{Sim, reply-is}
 use Rattle.machine.proofs.book.SimCalls.{sim-next}
 use Rattle.machine.proofs.book.SimRun.{Apart}
 use Rattle.layout.specs.declared.Told.{Told}
-use Rattle.machine.specs.state.Handle.{ToldOk}
 
 -- ---- another order
 
@@ -63,12 +62,12 @@ perm-differ (List·Permᴰ·swap {a = x} {b = y} {a′ = x′} {b′ = y′} p q
 )
 perm-differ (List·Permᴰ·trans d g) f = perm-differ g (perm-differ d f)
 
-module _ (τ : Told) (told : ToldOk τ) where
+module _ (τ : Told) where
   -- ---- the writes
 
   module _ (a : List ℕ) (bytes : ℕ → List ℕ) (x : FirstArena τ a) where
     -- a whole write is accepted where all others are finished
-    write-zero : (b : List Entry) → ((e : Entry) → List·Memᴰ e b → e .tally ≡ writeStores (layoutIn τ a)) → (w : Entry) → EntryOk τ told a bytes w
+    write-zero : (b : List Entry) → ((e : Entry) → List·Memᴰ e b → e .tally ≡ writeStores (layoutIn τ a)) → (w : Entry) → EntryOk τ a bytes w
         → w .tally ≡ writeStores (layoutIn τ a) → bookNumber τ a b (write (w .lane) (w .sector) (bytes (w .lane))) ≡ 0
     unfolding bookNumber answer
     write-zero b f w o p = rw (
@@ -87,27 +86,27 @@ module _ (τ : Told) (told : ToldOk τ) where
             (λ e m. rw (le-ltb (e .tally) (writeStores (layoutIn τ a)) (omega (arith, f e m))) (and-false (t e)))
 
     -- it joins them
-    write-next : (b : List Entry) (y : State) → Sim τ told a bytes b y → ((e : Entry) → List·Memᴰ e b → e .tally ≡ writeStores (layoutIn τ a)) → (w : Entry)
-        → EntryOk τ told a bytes w → w .tally ≡ writeStores (layoutIn τ a) → ((e : Entry) → List·Memᴰ e b → Far e w)
+    write-next : (b : List Entry) (y : State) → Sim τ a bytes b y → ((e : Entry) → List·Memᴰ e b → e .tally ≡ writeStores (layoutIn τ a)) → (w : Entry)
+        → EntryOk τ a bytes w → w .tally ≡ writeStores (layoutIn τ a) → ((e : Entry) → List·Memᴰ e b → Far e w)
         → (reply y (write (w .lane) (w .sector) (bytes (w .lane))) ≡ justNumber 0)
-        × Sim τ told a bytes (w ∷ b) (after y (write (w .lane) (w .sector) (bytes (w .lane))))
+        × Sim τ a bytes (w ∷ b) (after y (write (w .lane) (w .sector) (bytes (w .lane))))
     unfolding bookReply noted
     write-next b y z f w o p far =
         let C = write (w .lane) (w .sector) (bytes (w .lane)) in
         let n = write-zero b f w o p in (
-          reply-is τ told a bytes x b y z C ∙ ap justNumber n,
-          rw (n, ← p) at (sim-next τ told a bytes x b y z C (o .small (omega arith)) (λ _. (far, refl))),
+          reply-is τ a bytes x b y z C ∙ ap justNumber n,
+          rw (n, ← p) at (sim-next τ a bytes x b y z C (o .small (omega arith)) (λ _. (far, refl))),
         )
 
     pub record Written (b ws : List Entry) (y : State) : Type 0 where
       pub answers : replies y (wholeWrites bytes ws) ≡ replicate (length ws) (justNumber 0)
       pub book : List Entry
-      pub sim : Sim τ told a bytes book (run y (wholeWrites bytes ws))
+      pub sim : Sim τ a bytes book (run y (wholeWrites bytes ws))
       pub to : (e : Entry) → List·Memᴰ e book → List·Memᴰ e b ⊎ List·Memᴰ e ws
       pub from : (e : Entry) → List·Memᴰ e b ⊎ List·Memᴰ e ws → List·Memᴰ e book
 
-    pub one-by-one : (ws b : List Entry) (y : State) → Sim τ told a bytes b y → ((e : Entry) → List·Memᴰ e b → e .tally ≡ writeStores (layoutIn τ a))
-        → ((e : Entry) → List·Memᴰ e ws → EntryOk τ told a bytes e × (e .tally ≡ writeStores (layoutIn τ a))) → Differ ws → Apart b ws → Written b ws y
+    pub one-by-one : (ws b : List Entry) (y : State) → Sim τ a bytes b y → ((e : Entry) → List·Memᴰ e b → e .tally ≡ writeStores (layoutIn τ a))
+        → ((e : Entry) → List·Memᴰ e ws → EntryOk τ a bytes e × (e .tally ≡ writeStores (layoutIn τ a))) → Differ ws → Apart b ws → Written b ws y
     unfolding says runs
     one-by-one [] b y z full each d far = record {
       answers = refl;

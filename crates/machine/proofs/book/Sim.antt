@@ -14,7 +14,7 @@ use Rattle.format.proofs.InNumbers.{map-words}
 use Rattle.layout.specs.Place.{layoutOf}
 use Rattle.layout.specs.declared.Figures.{Figures}
 use Rattle.machine.specs.state.Lane.{writeStores, isBusy}
-use Rattle.machine.specs.state.Handle.{Handle, laneAt, laidOut, ToldOk}
+use Rattle.machine.specs.state.Handle.{Handle, laneAt, laidOut}
 use Rattle.machine.specs.state.Flog.{mapWord, freeOf}
 use Rattle.machine.specs.calls.Opening.{figuresIn, layoutIn, handleFor}
 use Rattle.machine.specs.calls.Reading.{Read, readOf}
@@ -85,12 +85,12 @@ bad-bits w = by-bool (badBits w) _
     absurd (true-false (sym (and-intro _ _ (le-leb 0x40000000 w (b .0)) (lt-ltb w 0x80000000 (b .1))) ∙ t)))
     (λ u. u ∙ sym t))
 
-module _ (τ : Told) (told : ToldOk τ) where
+module _ (τ : Told) where
   pub record Sim (a : List ℕ) (bytes : ℕ → List ℕ) (b : List Entry) (y : State) : Type 0 where
-    pub arena : y .arena ≡ booked τ told a bytes b
+    pub arena : y .arena ≡ booked τ a bytes b
     pub figures : y .handle .figures ≡ figuresIn a
-    pub lanes : (l : ℕ) → l < (layoutIn τ a) .N → LaneOf τ told a b l (laneAt (y .handle .lanes) l)
-    pub ok : BookOk τ told a bytes b
+    pub lanes : (l : ℕ) → l < (layoutIn τ a) .N → LaneOf τ a b l (laneAt (y .handle .lanes) l)
+    pub ok : BookOk τ a bytes b
     pub held : HeldIn τ y
 
   -- the bytes of the write to a sector
@@ -103,10 +103,10 @@ module _ (τ : Told) (told : ToldOk τ) where
 
   module _ (a : List ℕ) (bytes : ℕ → List ℕ) (x : FirstArena τ a) (b : List Entry) (y : State) (z : Sim a bytes b y) where
     flies : (l : ℕ) → l < (figuresIn a) .lanes → isBusy (laneAt (y .handle .lanes) l) ≡ laneFlies τ a b l
-    flies l u = busy-is τ told a b (z .ok .differ) l (laneAt (y .handle .lanes) l) (z .lanes l (lanes-in (τ .distance) (figuresIn a) l u))
+    flies l u = busy-is τ a b (z .ok .differ) l (laneAt (y .handle .lanes) l) (z .lanes l (lanes-in (τ .distance) (figuresIn a) l u))
 
     flights : (s : ℕ) → inFlight (y .handle .lanes) ((figuresIn a) .lanes) s ≡ sectorFlies τ a b s
-    flights = flight-is τ told a b (z .ok .differ) ((figuresIn a) .lanes) (y .handle .lanes) (λ l u. z .lanes l (lanes-in (τ .distance) (figuresIn a) l u))
+    flights = flight-is τ a b (z .ok .differ) ((figuresIn a) .lanes) (y .handle .lanes) (λ l u. z .lanes l (lanes-in (τ .distance) (figuresIn a) l u))
         (λ e m. lanes-out (τ .distance) (figuresIn a) (e .lane) (z .ok .each e m .lane-in))
 
     -- the handle's layout is the first arena's
@@ -150,19 +150,19 @@ module _ (τ : Told) (told : ToldOk τ) where
         (λ t. let d = finished s t in
         let c : freeOf (layoutIn τ a) a (d .entry .lane) < 1073741824 =
         omega (arith, x .free-in (d .entry .lane) (z .ok .each (d .entry) (d .member) .lane-in), x .ok .small) in
-        rw (t, ← d .sector, word-new τ told a bytes x b (z .ok) (d .entry) (d .member) (d .whole), flags-mapped _ c))
-        (λ t. rw (t, kept-map τ told a bytes x b (z .ok) s (sectors-in (τ .distance) (figuresIn a) s u) (early s t)) (bad-bits (mapWord (layoutIn τ a) a s))))
+        rw (t, ← d .sector, word-new τ a bytes x b (z .ok) (d .entry) (d .member) (d .whole), flags-mapped _ c))
+        (λ t. rw (t, kept-map τ a bytes x b (z .ok) s (sectors-in (τ .distance) (figuresIn a) s u) (early s t)) (bad-bits (mapWord (layoutIn τ a) a s))))
 
     agree : (r : Rule) → Needs (figuresIn a) r → tests (y .arena) (y .handle) r ≡ bookTests τ a b r
-    agree badHandle u = rw (held-allowed τ told (y .arena) (y .handle) (z .held))
+    agree badHandle u = rw (held-allowed τ (y .arena) (y .handle) (z .held))
     agree (noSuchSector s) u = rw (z .figures)
     agree (wrongBuffer n) u = rw (z .figures)
     agree (noSuchLane l) u = rw (z .figures)
     agree (laneBusy l) u = flies l u
     agree (laneIdle l) u = ap not (flies l u)
     agree (sectorBusy s) u = rw (z .figures) (flights s)
-    agree (badMapWord s) u = held-word τ told (y .arena) (y .handle) (z .held) s (rw (z .figures) u)
-    agree (sloppyMapWord s) u = held-clean τ told (y .arena) (y .handle) (z .held) s (rw (z .figures) u)
+    agree (badMapWord s) u = held-word τ (y .arena) (y .handle) (z .held) s (rw (z .figures) u)
+    agree (sloppyMapWord s) u = held-clean τ (y .arena) (y .handle) (z .held) s (rw (z .figures) u)
     agree (badSector s) u = bad-is s u
 
     pub number-is : (c : Call) → callNumber (y .arena) (y .handle) c ≡ bookNumber τ a b c
@@ -183,12 +183,12 @@ module _ (τ : Told) (told : ToldOk τ) where
         → (readOf (y .arena) (y .handle) s buffer) .buffer ≡ cond (sectorDone τ a b s) (bytesOf τ a bytes b s buffer) ((readOf a (handleFor τ a) s buffer) .buffer)
     read-buffer s buffer zero-number = by-bool (sectorDone τ a b s) _
         (λ t. let d = finished s t in
-        let new = read-new τ told a bytes x b (z .ok) (y .arena) (y .handle) (z .held) (z .figures) (z .arena) s buffer (d .entry) (d .member) (d .whole) (d .sector) in
+        let new = read-new τ a bytes x b (z .ok) (y .arena) (y .handle) (z .held) (z .figures) (z .arena) s buffer (d .entry) (d .member) (d .whole) (d .sector) in
         rw (t, ← d .sector, bytes-of a bytes b (z .ok .differ) (d .entry) (d .member) (d .landed) buffer)
         (rw (d .sector) (ap (λ (r : Read). r .buffer) new ∙ holds-read (figuresIn a) (bytes (d .entry .lane)) s buffer
         (ap (λ (r : Read). r .number) (sym new) ∙ number-of (read s buffer) ∙ zero-number))))
         (λ t. rw t (ap (λ (r : Read). r .buffer)
-        (read-old τ told a bytes x b (z .ok) (y .arena) (y .handle) (z .held) (z .figures) (z .arena) s buffer (handleFor τ a) (x .handle) (early s t))))
+        (read-old τ a bytes x b (z .ok) (y .arena) (y .handle) (z .held) (z .figures) (z .arena) s buffer (handleFor τ a) (x .handle) (early s t))))
 
     read-is : (s : ℕ) (buffer : List ℕ) → readOf (y .arena) (y .handle) s buffer ≡ bookRead τ a bytes b s buffer
     unfolding bookRead

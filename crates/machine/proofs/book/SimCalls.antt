@@ -16,7 +16,7 @@ use Rattle.format.proofs.Tests.{true-false, and-intro}
 use Rattle.machine.specs.Rules.{answer}
 use Rattle.machine.specs.declared.lane.Lane.{Lane}
 use Rattle.machine.specs.state.Lane.{startedLane, writeStores, isBusy}
-use Rattle.machine.specs.state.Handle.{laneAt, ToldOk, laidOut}
+use Rattle.machine.specs.state.Handle.{laneAt, laidOut}
 use Rattle.machine.specs.state.Flog.{mapBlock}
 use Rattle.machine.specs.calls.Opening.{figuresIn, layoutIn}
 use Rattle.machine.specs.calls.Writing.{
@@ -73,32 +73,32 @@ Fresh b (start l s) = Unused b l s
 Fresh b (step l buffer) = Unit {0}
 Fresh b (write l s buffer) = Unused b l s
 
-module _ (τ : Told) (told : ToldOk τ) where
+module _ (τ : Told) where
   -- ---- a start and a step
 
-  module _ (a : List ℕ) (bytes : ℕ → List ℕ) (x : FirstArena τ a) (b : List Entry) (y : State) (z : Sim τ told a bytes b y) where
+  module _ (a : List ℕ) (bytes : ℕ → List ℕ) (x : FirstArena τ a) (b : List Entry) (y : State) (z : Sim τ a bytes b y) where
     in-lanes : (l : ℕ) → l < (layoutIn τ a) .N → l < length (y .handle .lanes)
-    in-lanes l u = let v : l < (laidOut (y .handle)) .N = rw (layout-is τ told a bytes x b y z) u in omega (arith, z .held .good .inv .long)
+    in-lanes l u = let v : l < (laidOut (y .handle)) .N = rw (layout-is τ a bytes x b y z) u in omega (arith, z .held .good .inv .long)
 
     -- the lanes with one replaced
-    with-lane : (c : List Entry) (l : ℕ) (r : Lane) → l < (layoutIn τ a) .N → LaneOf τ told a c l r
-        → ((j : ℕ) → j ≢ l → (q : Lane) → LaneOf τ told a b j q → LaneOf τ told a c j q)
-        → (j : ℕ) → j < (layoutIn τ a) .N → LaneOf τ told a c j (laneAt (set (y .handle .lanes) l r) j)
+    with-lane : (c : List Entry) (l : ℕ) (r : Lane) → l < (layoutIn τ a) .N → LaneOf τ a c l r
+        → ((j : ℕ) → j ≢ l → (q : Lane) → LaneOf τ a b j q → LaneOf τ a c j q)
+        → (j : ℕ) → j < (layoutIn τ a) .N → LaneOf τ a c j (laneAt (set (y .handle .lanes) l r) j)
     with-lane c l r u own others j v = go (ℕ-discrete j l)
       where
-        go : Dec (j ≡ l) → LaneOf τ told a c j (laneAt (set (y .handle .lanes) l r) j)
+        go : Dec (j ≡ l) → LaneOf τ a c j (laneAt (set (y .handle .lanes) l r) j)
         go (yes p) = rw (p, lane-same (y .handle .lanes) l r (in-lanes l u)) own
         go (no n) = rw (lane-other (y .handle .lanes) l r j n) (others j n _ (z .lanes j v))
 
     -- an accepted start
     start-sim : (l s : ℕ) → startNumber (y .arena) (y .handle) l s ≡ 0 → Fresh b (start l s)
-        → Sim τ told a bytes (entryOf l s 0 ∷ b) (after y (start l s))
+        → Sim τ a bytes (entryOf l s 0 ∷ b) (after y (start l s))
     start-sim l s e f = record {
       arena = unfold kept firstStores startOf in (z .arena);
       figures = alike-after y (start l s) .figures ∙ z .figures;
-      lanes = λ j w. rw handed (with-lane (entryOf l s 0 ∷ b) l r u own (new-other τ told b l s a) j w);
-      ok = new-ok τ told b l s a bytes (z .ok) u v f;
-      held = held-after τ told y (start l s) tt (z .held);
+      lanes = λ j w. rw handed (with-lane (entryOf l s 0 ∷ b) l r u own (new-other τ b l s a) j w);
+      ok = new-ok τ b l s a bytes (z .ok) u v f;
+      held = held-after τ y (start l s) tt (z .held);
     }
       where
         u : l < (layoutIn τ a) .N
@@ -113,18 +113,18 @@ module _ (τ : Told) (told : ToldOk τ) where
         handed : (startOf (y .arena) (y .handle) l s) .handle .lanes ≡ set (y .handle .lanes) l r
         handed = unfold startOf in (rw e)
 
-        found : LaneOf τ told a b l (laneAt (y .handle .lanes) l) → AsFound τ a l (laneAt (y .handle .lanes) l)
+        found : LaneOf τ a b l (laneAt (y .handle .lanes) l) → AsFound τ a l (laneAt (y .handle .lanes) l)
         found (untouched q _) = q
         found (written d m p _) = absurd (f d m .0 p)
 
-        own : LaneOf τ told a (entryOf l s 0 ∷ b) l r
+        own : LaneOf τ a (entryOf l s 0 ∷ b) l r
         own = written (entryOf l s 0) (List·Memᴰ·head refl) refl
-            (rw (layout-is τ told a bytes x b y z, z .arena, kept-map τ told a bytes x b (z .ok) s v (λ d m p. absurd (f d m .1 p)))
-            (lane-started τ told a l s (laneAt (y .handle .lanes) l) (found (z .lanes l u))))
+            (rw (layout-is τ a bytes x b y z, z .arena, kept-map τ a bytes x b (z .ok) s v (λ d m p. absurd (f d m .1 p)))
+            (lane-started τ a l s (laneAt (y .handle .lanes) l) (found (z .lanes l u))))
 
     -- an accepted step
     step-sim : (l : ℕ) (buffer : List ℕ) → stepNumber (y .arena) (y .handle) l buffer ≡ 0 → Small buffer → buffer ≡ bytes l
-        → Sim τ told a bytes (tallied l b) (after y (step l buffer))
+        → Sim τ a bytes (tallied l b) (after y (step l buffer))
     step-sim l buffer q small same = rw (tallied-is l b) (go (z .lanes l u))
       where
         d : StepFound (y .arena) (y .handle) l buffer
@@ -137,21 +137,21 @@ module _ (τ : Told) (told : ToldOk τ) where
         r = laneAt (y .handle .lanes) l
 
         handed : (stepOf (y .arena) (y .handle) l buffer) .handle .lanes ≡ set (y .handle .lanes) l (laneStored (layoutIn τ a) r)
-        handed = unfold stepOf in (rw (q, layout-is τ told a bytes x b y z))
+        handed = unfold stepOf in (rw (q, layout-is τ a bytes x b y z))
 
-        go : LaneOf τ told a b l (laneAt (y .handle .lanes) l) → Sim τ told a bytes (map (retally (oneMore l)) b) (after y (step l buffer))
+        go : LaneOf τ a b l (laneAt (y .handle .lanes) l) → Sim τ a bytes (map (retally (oneMore l)) b) (after y (step l buffer))
         go (untouched w _) = true-false (sym (d .busy) ∙ w .idle)
         go (written e m p is) = record {
-          arena = unfold stepOf in (rw (q, layout-is τ told a bytes x b y z, st-is, z .arena) (sym (more-arena τ told a bytes x b (z .ok) l e m p flies sm size)));
+          arena = unfold stepOf in (rw (q, layout-is τ a bytes x b y z, st-is, z .arena) (sym (more-arena τ a bytes x b (z .ok) l e m p flies sm size)));
           figures = alike-after y (step l buffer) .figures ∙ z .figures;
           lanes = λ j w. rw handed (with-lane (map (retally (oneMore l)) b) l (laneStored (layoutIn τ a) r) u
-              (rw is (more-lane τ told a bytes x b (z .ok) l e m p flies sm size)) (more-other τ told a b l) j w);
-          ok = more-ok τ told a bytes x b (z .ok) l e m p flies sm size;
-          held = held-after τ told y (step l buffer) small (z .held);
+              (rw is (more-lane τ a bytes x b (z .ok) l e m p flies sm size)) (more-other τ a b l) j w);
+          ok = more-ok τ a bytes x b (z .ok) l e m p flies sm size;
+          held = held-after τ y (step l buffer) small (z .held);
         }
           where
             flies : e .tally < writeStores (layoutIn τ a)
-            flies = ltb-true _ _ (sym (ap isBusy is ∙ lane-busy τ told a e) ∙ d .busy)
+            flies = ltb-true _ _ (sym (ap isBusy is ∙ lane-busy τ a e) ∙ d .busy)
 
             sm : Small (bytes l)
             sm = rw (← same) small
@@ -159,8 +159,8 @@ module _ (τ : Told) (told : ToldOk τ) where
             size : length (bytes l) ≡ (figuresIn a) .size
             size = rw (← same, ← z .figures) (d .size)
 
-            st-is : storeAt (layoutIn τ a) (planOf l r) buffer (r .made) ≡ storeOf τ told a bytes e (e .tally)
-            st-is = rw (is ∙ lane-flying τ told a e (lt-ltb _ _ flies), same, ← p)
+            st-is : storeAt (layoutIn τ a) (planOf l r) buffer (r .made) ≡ storeOf τ a bytes e (e .tally)
+            st-is = rw (is ∙ lane-flying τ a e (lt-ltb _ _ flies), same, ← p)
 
   -- ---- a whole write
 
@@ -178,8 +178,8 @@ module _ (τ : Told) (told : ToldOk τ) where
 
     -- the first n steps
     steps-sim : (n : ℕ) (y : State) → n ≤ writeStores (layoutIn τ a) → l < (figuresIn a) .lanes → length buffer ≡ (figuresIn a) .size → Small buffer
-        → buffer ≡ bytes l → ((d : Entry) → List·Memᴰ d b → d .lane ≢ l) → Sim τ told a bytes (entryOf l s 0 ∷ b) y
-        → Sim τ told a bytes (entryOf l s n ∷ b) (outcomeState (stepsOf n (y .arena) (y .handle) l buffer))
+        → buffer ≡ bytes l → ((d : Entry) → List·Memᴰ d b → d .lane ≢ l) → Sim τ a bytes (entryOf l s 0 ∷ b) y
+        → Sim τ a bytes (entryOf l s n ∷ b) (outcomeState (stepsOf n (y .arena) (y .handle) l buffer))
     unfolding stepsOf
     steps-sim zero y u v size small same f z = z
     steps-sim (suc n) y u v size small same f z = go (steps-sim n y (omega arith) v size small same f z)
@@ -190,41 +190,41 @@ module _ (τ : Told) (told : ToldOk τ) where
         grown : tallied l (entryOf l s n ∷ b) ≡ entryOf l s (suc n) ∷ b
         grown = unfold tallied in (rw (eq-eqb l l refl, add-one n, tallied-none l b f))
 
-        go : Sim τ told a bytes (entryOf l s n ∷ b) y′
-            → Sim τ told a bytes (entryOf l s (suc n) ∷ b) (after y′ (step l buffer))
+        go : Sim τ a bytes (entryOf l s n ∷ b) y′
+            → Sim τ a bytes (entryOf l s (suc n) ∷ b) (after y′ (step l buffer))
         go w = rw grown at
             (step-sim a bytes x (entryOf l s n ∷ b) y′ w l buffer
-            (number-is τ told a bytes x (entryOf l s n ∷ b) y′ w (step l buffer) ∙ steps-next n (omega arith) v size) small same)
+            (number-is τ a bytes x (entryOf l s n ∷ b) y′ w (step l buffer) ∙ steps-next n (omega arith) v size) small same)
 
-  module _ (a : List ℕ) (bytes : ℕ → List ℕ) (x : FirstArena τ a) (b : List Entry) (y : State) (z : Sim τ told a bytes b y) where
+  module _ (a : List ℕ) (bytes : ℕ → List ℕ) (x : FirstArena τ a) (b : List Entry) (y : State) (z : Sim τ a bytes b y) where
     write-sim : (l s : ℕ) (buffer : List ℕ) → writeNumber (y .arena) (y .handle) l s buffer ≡ 0 → Small buffer → buffer ≡ bytes l
-        → Fresh b (write l s buffer) → Sim τ told a bytes (entryOf l s (writeStores (layoutIn τ a)) ∷ b) (after y (write l s buffer))
+        → Fresh b (write l s buffer) → Sim τ a bytes (entryOf l s (writeStores (layoutIn τ a)) ∷ b) (after y (write l s buffer))
     write-sim l s buffer e small same f =
         let w = write-found (y .arena) (y .handle) l s buffer e in
-        rw (write-after y l s buffer (writeStores (layoutIn τ a)) (rw (layout-is τ told a bytes x b y z)) e)
+        rw (write-after y l s buffer (writeStores (layoutIn τ a)) (rw (layout-is τ a bytes x b y z)) e)
         (steps-sim a bytes x b l s buffer (writeStores (layoutIn τ a)) (after y (start l s)) (omega arith)
         (rw (z .figures) at (start-found (y .arena) (y .handle) l s (w .start) .lane)) (w .size ∙ rw (z .figures)) small same (λ d m. f d m .0)
         (start-sim a bytes x b y z l s (w .start) f))
 
     -- ---- any call
 
-    accepted : (c : Call) → SmallCall c → bookNumber τ a b c ≡ 0 → Fresh b c → lends bytes c → Sim τ told a bytes (noted τ a b c) (after y c)
+    accepted : (c : Call) → SmallCall c → bookNumber τ a b c ≡ 0 → Fresh b c → lends bytes c → Sim τ a bytes (noted τ a b c) (after y c)
     unfolding noted
     accepted (read s buffer) small e f same = z
-    accepted (start l s) small e f same = start-sim a bytes x b y z l s (number-is τ told a bytes x b y z (start l s) ∙ e) f
-    accepted (step l buffer) small e f same = step-sim a bytes x b y z l buffer (number-is τ told a bytes x b y z (step l buffer) ∙ e) small same
-    accepted (write l s buffer) small e f same = write-sim l s buffer (number-is τ told a bytes x b y z (write l s buffer) ∙ e) small same f
+    accepted (start l s) small e f same = start-sim a bytes x b y z l s (number-is τ a bytes x b y z (start l s) ∙ e) f
+    accepted (step l buffer) small e f same = step-sim a bytes x b y z l buffer (number-is τ a bytes x b y z (step l buffer) ∙ e) small same
+    accepted (write l s buffer) small e f same = write-sim l s buffer (number-is τ a bytes x b y z (write l s buffer) ∙ e) small same f
 
     refused-book : (c : Call) → bookNumber τ a b c ≢ 0 → after y c ≡ y
     refused-book (read s buffer) n = refl
-    refused-book (start l s) n = refused-after y (start l s) (rw (number-of τ told a bytes x b y z (start l s)) n)
-    refused-book (step l buffer) n = refused-after y (step l buffer) (rw (number-of τ told a bytes x b y z (step l buffer)) n)
-    refused-book (write l s buffer) n = refused-after y (write l s buffer) (rw (number-of τ told a bytes x b y z (write l s buffer)) n)
+    refused-book (start l s) n = refused-after y (start l s) (rw (number-of τ a bytes x b y z (start l s)) n)
+    refused-book (step l buffer) n = refused-after y (step l buffer) (rw (number-of τ a bytes x b y z (step l buffer)) n)
+    refused-book (write l s buffer) n = refused-after y (write l s buffer) (rw (number-of τ a bytes x b y z (write l s buffer)) n)
 
     -- if what it begins is new to the book and it lends its write's bytes
-    pub sim-next : (c : Call) → SmallCall c → (bookNumber τ a b c ≡ 0 → Fresh b c × lends bytes c) → Sim τ told a bytes (bookNext τ a b c) (after y c)
+    pub sim-next : (c : Call) → SmallCall c → (bookNumber τ a b c ≡ 0 → Fresh b c × lends bytes c) → Sim τ a bytes (bookNext τ a b c) (after y c)
     sim-next c small f = go (ℕ-discrete (bookNumber τ a b c) 0)
       where
-        go : Dec (bookNumber τ a b c ≡ 0) → Sim τ told a bytes (bookNext τ a b c) (after y c)
+        go : Dec (bookNumber τ a b c ≡ 0) → Sim τ a bytes (bookNext τ a b c) (after y c)
         go (yes e) = rw e (accepted c small e (f e .0) (f e .1))
         go (no n) = rw (ne-eqb (bookNumber τ a b c) 0 n, refused-book c n) z

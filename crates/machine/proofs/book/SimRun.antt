@@ -21,7 +21,7 @@ use Prim.Native.Nat.{ℕ, zero, suc}
 use native.Mathlib.Omega.{arith}
 use lib.Dec.{eqb}
 use borrow.Author.Tests.{ne-eqb}
-use Rattle.machine.specs.state.Handle.{Handle, ToldOk}
+use Rattle.machine.specs.state.Handle.{Handle}
 use Rattle.machine.specs.state.Lane.{writeStores}
 use Rattle.machine.specs.state.Stores.{putAll}
 use Rattle.machine.specs.calls.Opening.{layoutIn}
@@ -54,19 +54,19 @@ like-here w e m = record { entry = e; member = m; lane = refl; sector = refl }
 far-from : (b w : List Entry) → Apart b w → (d e : Entry) → Like b d → List·Memᴰ e w → Far d e
 far-from b w f d e k m = far-like (k .entry) e d e (sym (k .lane)) (sym (k .sector)) refl refl (f (k .entry) e (k .member) m)
 
-module _ (τ : Told) (told : ToldOk τ) where
+module _ (τ : Told) where
   -- the empty book, all lanes idle
-  pub sim-start : (a : List ℕ) (h : Handle) (bytes : ℕ → List ℕ) → Held τ a h → AllIdle h → Sim τ told a bytes [] (record { arena = a; handle = h })
+  pub sim-start : (a : List ℕ) (h : Handle) (bytes : ℕ → List ℕ) → Held τ a h → AllIdle h → Sim τ a bytes [] (record { arena = a; handle = h })
   unfolding kept putAll
   sim-start a h bytes k idle = record {
     arena = refl;
     figures = sym (k .good .figures);
-    lanes = λ l u. untouched (first-found τ told a h k idle l u) (λ e m. absurd (List·Memᴰ·not-nil m));
+    lanes = λ l u. untouched (first-found τ a h k idle l u) (λ e m. absurd (List·Memᴰ·not-nil m));
     ok = record { each = λ e m. absurd (List·Memᴰ·not-nil m); differ = tt };
     held = k;
   }
 
-  module _ (a : List ℕ) (bytes : ℕ → List ℕ) (x : FirstArena τ a) (b : List Entry) (y : State) (z : Sim τ told a bytes b y) where
+  module _ (a : List ℕ) (bytes : ℕ → List ℕ) (x : FirstArena τ a) (b : List Entry) (y : State) (z : Sim τ a bytes b y) where
     -- what a call begins, by the book's number
     begins-is : (c : Call) → begins ((reply y c) .number) c ≡ begins (bookNumber τ a b c) c
     begins-is (read s buffer) = none ((reply y (read s buffer)) .number) ∙ sym (none (bookNumber τ a b (read s buffer)))
@@ -74,9 +74,9 @@ module _ (τ : Told) (told : ToldOk τ) where
         none : (n : ℕ) → begins n (read s buffer) ≡ []
         none zero = refl
         none (suc n) = refl
-    begins-is (start l s) = ap (λ (n : ℕ). begins n (start l s)) (number-of τ told a bytes x b y z (start l s))
-    begins-is (step l buffer) = ap (λ (n : ℕ). begins n (step l buffer)) (number-of τ told a bytes x b y z (step l buffer))
-    begins-is (write l s buffer) = ap (λ (n : ℕ). begins n (write l s buffer)) (number-of τ told a bytes x b y z (write l s buffer))
+    begins-is (start l s) = ap (λ (n : ℕ). begins n (start l s)) (number-of τ a bytes x b y z (start l s))
+    begins-is (step l buffer) = ap (λ (n : ℕ). begins n (step l buffer)) (number-of τ a bytes x b y z (step l buffer))
+    begins-is (write l s buffer) = ap (λ (n : ℕ). begins n (write l s buffer)) (number-of τ a bytes x b y z (write l s buffer))
 
     -- the book after a call has the writes of before and the one that the call begins
     next-like : (c : Call) (e : Entry) → List·Memᴰ e (bookNext τ a b c) → Like b e ⊎ Like (begins ((reply y c) .number) c) e
@@ -123,21 +123,21 @@ module _ (τ : Told) (told : ToldOk τ) where
     lends-of : (c : Call) → ((reply y c) .number ≡ 0 → lends bytes c) → bookNumber τ a b c ≡ 0 → lends bytes c
     lends-of (read s buffer) f e = tt
     lends-of (start l s) f e = tt
-    lends-of (step l buffer) f e = f (number-of τ told a bytes x b y z (step l buffer) ∙ e)
-    lends-of (write l s buffer) f e = f (number-of τ told a bytes x b y z (write l s buffer) ∙ e)
+    lends-of (step l buffer) f e = f (number-of τ a bytes x b y z (step l buffer) ∙ e)
+    lends-of (write l s buffer) f e = f (number-of τ a bytes x b y z (write l s buffer) ∙ e)
 
   -- any list of calls
-  pub sim-run : (a : List ℕ) (bytes : ℕ → List ℕ) → FirstArena τ a → (cs : List Call) (b : List Entry) (y : State) → Sim τ told a bytes b y → SmallCalls cs
+  pub sim-run : (a : List ℕ) (bytes : ℕ → List ℕ) → FirstArena τ a → (cs : List Call) (b : List Entry) (y : State) → Sim τ a bytes b y → SmallCalls cs
       → Lends bytes y cs → Differ (begun y cs) → Apart b (begun y cs)
-      → (replies y cs ≡ bookReplies τ a bytes b cs) × Sim τ told a bytes (bookAfter τ a b cs) (run y cs)
+      → (replies y cs ≡ bookReplies τ a bytes b cs) × Sim τ a bytes (bookAfter τ a b cs) (run y cs)
   unfolding says runs begun
   sim-run a bytes x [] b y z small le di ap = (refl, z)
   sim-run a bytes x (c ∷ cs) b y z small le di far =
       let w = begins ((reply y c) .number) c in
       let rest = begun (after y c) cs in
-      let z′ = sim-next τ told a bytes x b y z c (small c (List·Memᴰ·head refl))
+      let z′ = sim-next τ a bytes x b y z c (small c (List·Memᴰ·head refl))
       (λ e. (fresh-of a bytes x b y z c (λ d f m n. far d f m (Memᴰ·append-left rest n)) e, lends-of a bytes x b y z c (le .0) e)) in
       let r = sim-run a bytes x cs (bookNext τ a b c) (after y c) z′ (λ d m. small d (List·Memᴰ·tail m)) (le .1) (differ-right w rest di)
       (λ d e m n. ⊎-elim (λ k. far-from b (w ++ rest) far d e k (Memᴰ·append-right w n))
       (λ k. far-from w rest (differ-across w rest di) d e k n) (next-like a bytes x b y z c d m)) in
-      (ap₂ {C = List Reply} (λ p q. p ∷ q) (reply-is τ told a bytes x b y z c) (r .0), r .1)
+      (ap₂ {C = List Reply} (λ p q. p ∷ q) (reply-is τ a bytes x b y z c) (r .0), r .1)

@@ -43,9 +43,8 @@ use Rattle.machine.proofs.book.Places.{place-once, place-apart, first-i
 use Rattle.machine.proofs.book.Entries.{Far, differ-pair, retally}
 use Rattle.machine.proofs.book.FirstArena.{FirstArena}
 use Rattle.layout.specs.declared.Told.{Told}
-use Rattle.machine.specs.state.Handle.{ToldOk}
 
-module _ (τ : Told) (told : ToldOk τ) where
+module _ (τ : Told) where
   -- ---- the members of a book's stores
 
   module _ (a : List ℕ) (bytes : ℕ → List ℕ) where

@@ -8,6 +8,7 @@ use Prim.Native.Nat.{ℕ, _-_}
 use native.Mathlib.Omega.{arith}
 use lib.Dec.{eqb, ltb}
 use lib.ListN.{length, take, drop}
+use borrow.Author.Tests.{ltb-true, ltb-false}
 use Rattle.words.specs.Bytes.{Small}
 use Rattle.format.proofs.Tests.{by-bool}
 use Rattle.layout.specs.Figures.{lengthAllowed}
@@ -15,16 +16,16 @@ use Rattle.infoblock.specs.Info.{infoBlockOf, infoAllowed, flagsAllowed}
 use Rattle.infoblock.proofs.InfoBlock.{info-in, counting-main, counting-copy}
 use Rattle.machine.specs.Rules.{answer}
 use Rattle.machine.specs.calls.Opening.{layoutIn, openNumber, openOf, cutOpenOf, lanesLost, wordBad, sloppy, unsettled}
-use Rattle.layout.specs.Claims.{Length}
+use Rattle.layout.specs.Claims.{Length, Distance}
 use Rattle.infoblock.specs.Claims.{Sound}
-use Rattle.machine.specs.claims.DemandOne.{InfoBlockShown, CutOpening, DemandOne}
+use Rattle.machine.specs.claims.DemandOne.{InfoBlockShown, CutOpening, OneLayout, DemandOne}
 use Rattle.machine.proofs.opening.Reflect.{length-ok, ok-length, ok-sound, main-unsound, none-counts, none-sound}
 use Rattle.machine.proofs.making.Making.{making-claim}
 use Rattle.machine.proofs.opening.Opening.{opening-claim}
 use Rattle.machine.proofs.calls.Running.{running-claim}
 use Rattle.machine.proofs.calls.Packing.{packing-claim}
-use Rattle.layout.specs.Told.{alone}
-use Rattle.machine.proofs.opening.Described.{told-alone}
+use Rattle.layout.specs.Told.{distanceAllowed, alone}
+use Rattle.layout.proofs.Allowed.{of-distance}
 
 -- a length that is not allowed shows no block
 info-out : (a : List ℕ) → lengthAllowed (length a) ≡ false → infoBlockOf a ≡ []
@@ -48,19 +49,21 @@ module _ (a : List ℕ) (small : Small a) where
   nothing c = by-bool (lengthAllowed (length a)) (infoBlockOf a ≡ [])
       (λ e. ⊎-elim (λ n. absurd (n (length-ok (length a) e))) (λ p. none-counts a small e (p .0) (p .1)) c) (info-out a)
 
-  under : (work : List ℕ) → ((openOf alone a work) .number ≡ 1) ⊎ ((openOf alone a work) .number ≡ 2) → infoBlockOf a ≡ []
+  under : (d : ℕ) (work : List ℕ) → ((openOf (alone d) a work) .number ≡ 1) ⊎ ((openOf (alone d) a work) .number ≡ 2) → infoBlockOf a ≡ []
   unfolding openOf openNumber answer
-  under work c = by-bool (lengthAllowed (length a)) (infoBlockOf a ≡ [])
+  under d work c = by-bool (distanceAllowed d) (infoBlockOf a ≡ [])
+      (λ w. by-bool (lengthAllowed (length a)) (infoBlockOf a ≡ [])
       (λ e. by-bool (eqb (length (infoBlockOf a)) 0) (infoBlockOf a ≡ [])
       (λ z. nothing (inr (none-sound a small e z)))
-      (λ z. absurd (later (not (infoAllowed alone (infoBlockOf a) (length a))) (not (flagsAllowed (infoBlockOf a))) (ltb (length work) ((layoutIn alone a) .I))
-      (lanesLost (layoutIn alone a) a) (wordBad (layoutIn alone a) a) (sloppy (layoutIn alone a) a) (unsettled (layoutIn alone a) a) (rw (e, z) at c))))
-      (info-out a)
+      (λ z. absurd (later (not (infoAllowed (alone d) (infoBlockOf a) (length a))) (not (flagsAllowed (infoBlockOf a))) (ltb (length work) ((layoutIn (alone d) a) .I))
+      (lanesLost (layoutIn (alone d) a) a) (wordBad (layoutIn (alone d) a) a) (sloppy (layoutIn (alone d) a) a) (unsettled (layoutIn (alone d) a) a) (rw (w, e, z) at c))))
+      (info-out a))
+      (λ w. absurd (⊎-elim (λ e. omega arith) (λ e. omega arith) (rw w at c)))
 
-  only : (work : List ℕ) → infoBlockOf a ≡ [] → ((openOf alone a work) .number ≡ 1) ⊎ ((openOf alone a work) .number ≡ 2)
+  only : (d : ℕ) (work : List ℕ) → Distance d → infoBlockOf a ≡ [] → ((openOf (alone d) a work) .number ≡ 1) ⊎ ((openOf (alone d) a work) .number ≡ 2)
   unfolding openOf openNumber answer
-  only work b = by-bool (lengthAllowed (length a)) (((openOf alone a work) .number ≡ 1) ⊎ ((openOf alone a work) .number ≡ 2))
-      (λ e. inr (rw (e, b))) (λ e. inl (rw e))
+  only d work w b = by-bool (lengthAllowed (length a)) (((openOf (alone d) a work) .number ≡ 1) ⊎ ((openOf (alone d) a work) .number ≡ 2))
+      (λ e. inr (rw (of-distance d w, e, b))) (λ e. inl (rw (of-distance d w, e)))
 
   info-block : InfoBlockShown a
   info-block = record {
@@ -71,20 +74,28 @@ module _ (a : List ℕ) (small : Small a) where
     only = only;
   }
 
-  cut-opening : (work : List ℕ) (k : ℕ) → CutOpening a work k
+  cut-opening : (d : ℕ) (work : List ℕ) (k : ℕ) → CutOpening d a work k
   unfolding openOf cutOpenOf
-  cut-opening work k = record {
-    answers = opening-claim alone told-alone .answers a work small .answers;
-    refused = opening-claim alone told-alone .refused-cut a work k;
-    work-buffer = let w = opening-claim alone told-alone .work a work in record { alone = w .alone; cleared = w .cleared; size = w .size };
+  cut-opening d work k = record {
+    answers = opening-claim (alone d) .answers a work small .answers;
+    refused = opening-claim (alone d) .refused-cut a work k;
+    work-buffer = let w = opening-claim (alone d) .work a work in record { alone = w .alone; cleared = w .cleared; size = w .size };
   }
+
+-- byte j is padding in one of the two layouts
+one-layout : OneLayout
+one-layout a work room small near far l j u v w =
+    let p = opening-claim (alone 16) .answers a work small .accepts near .0 .clean .padding l j u w in
+    let q = opening-claim (alone 32) .answers a room small .accepts far .0 .clean .padding l j u w in
+    by-bool (ltb j 32) _ (λ t. q (v, inl (ltb-true j 32 t))) (λ t. p (v, inr (ltb-false j 32 t)))
 
 pub demand-one : DemandOne
 demand-one = record {
   making = making-claim;
   info-block = info-block;
-  opening = opening-claim alone told-alone;
-  cut-opening = λ a work k small. cut-opening a small work k;
+  opening = λ d. opening-claim (alone d);
+  cut-opening = λ d a work k small. cut-opening a small d work k;
+  one-layout = one-layout;
   running = running-claim;
   packing = packing-claim;
 }

@@ -29,9 +29,9 @@ module _ {A : Type 0} where
 
 module _ (p : packed.Handle) where
   pub repacked-self : repacked p (unpacked p) ≡ p
-  repacked-self = ap (λ (xs : List Lane). record { length = p .length; figures = p .figures; lanes = xs }) (taken-whole (p .figures .lanes) (p .lanes))
+  repacked-self = ap (λ (xs : List Lane). record { length = p .length; distance = p .distance; figures = p .figures; lanes = xs }) (taken-whole (p .figures .lanes) (p .lanes))
 
   pub repacked-set : (l : ℕ) (r : Lane) → l < p .figures .lanes
-      → repacked p (withLane (unpacked p) l r) ≡ record { length = p .length; figures = p .figures; lanes = set (p .lanes) l r }
+      → repacked p (withLane (unpacked p) l r) ≡ record { length = p .length; distance = p .distance; figures = p .figures; lanes = set (p .lanes) l r }
   repacked-set l r u =
-      ap (λ (xs : List Lane). record { length = p .length; figures = p .figures; lanes = xs }) (taken-set (p .figures .lanes) (p .lanes) l r u)
+      ap (λ (xs : List Lane). record { length = p .length; distance = p .distance; figures = p .figures; lanes = xs }) (taken-set (p .figures .lanes) (p .lanes) l r u)

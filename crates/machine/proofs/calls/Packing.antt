@@ -28,7 +28,6 @@ use Rattle.machine.proofs.calls.Packed.{repacked-self}
 use Rattle.machine.proofs.calls.Records.{idle-is, zero-figures}
 use Rattle.machine.proofs.invariant.Lanes.{found-length}
 use Rattle.machine.proofs.invariant.Histories.{alike-after}
-use Rattle.machine.proofs.opening.Described.{told-alone}
 use Rattle.machine.proofs.opening.Opens.{opened-handle}
 
 -- ---- as many records as there were
@@ -79,14 +78,14 @@ zero-at n l = go (decLt l n)
     go (no h) = List·getD-eq-default (replicate n noLane) noLane (rw length-replicate (omega arith))
 
 -- an array with a record for each lane stands for the handle
-stands : (p : packed.Handle) (h : Handle) → h .distance ≡ 16 → length (h .lanes) ≡ h .figures .lanes → unpacked (repacked p h) ≡ h
-stands p h d n = λ i. record { length = h .length; distance = sym d i; figures = h .figures; lanes = whole i }
+stands : (p : packed.Handle) (h : Handle) → length (h .lanes) ≡ h .figures .lanes → unpacked (repacked p h) ≡ h
+stands p h n = λ i. record { length = h .length; distance = h .distance; figures = h .figures; lanes = whole i }
   where
     whole : take (h .figures .lanes) (h .lanes ++ drop (length (h .lanes)) (p .lanes)) ≡ h .lanes
     whole = take-at (h .lanes) (drop (length (h .lanes)) (p .lanes)) (h .figures .lanes) n
 
 zero-packed : ZeroPacked zeroHandle
-zero-packed = record { total = refl; figures = zero-figures; records = refl; lanes = λ l. idle-is 0 0 0 _ (zero-at maxLanes l) }
+zero-packed = record { total = refl; distance = refl; figures = zero-figures; records = refl; lanes = λ l. idle-is 0 0 0 _ (zero-at maxLanes l) }
 
 -- ---- the claim
 
@@ -102,26 +101,26 @@ module _ (a : List ℕ) (p : packed.Handle) (c : Call) (room : p .figures .lanes
       let like = alike-after x c in
       record {
         past = λ l u. past-put ((after x c) .handle .lanes) (p .lanes) l (omega (arith, count));
-        stands = stands p ((after x c) .handle) (like .distance) (rw (like .figures) count);
+        stands = stands p ((after x c) .handle) (rw (like .figures) count);
       }
 
-module _ (a work : List ℕ) where
-  refused : (openOf alone a work) .number ≢ 0 → ZeroPacked (packedUp ((openOf alone a work) .handle))
+module _ (d : ℕ) (a work : List ℕ) where
+  refused : (openOf (alone d) a work) .number ≢ 0 → ZeroPacked (packedUp ((openOf (alone d) a work) .handle))
   unfolding openOf
-  refused n = rw (ne-eqb (openNumber alone a (length work)) 0 n) zero-packed
+  refused n = rw (ne-eqb (openNumber (alone d) a (length work)) 0 n) zero-packed
 
-  accepted : (openOf alone a work) .number ≡ 0 → unpacked (packedUp ((openOf alone a work) .handle)) ≡ (openOf alone a work) .handle
+  accepted : (openOf (alone d) a work) .number ≡ 0 → unpacked (packedUp ((openOf (alone d) a work) .handle)) ≡ (openOf (alone d) a work) .handle
   unfolding handleFor layoutOf
-  accepted e = rw (opened-handle alone told-alone a work e) (stands zeroHandle (handleFor alone a) refl (found-length (layoutIn alone a) a ((layoutIn alone a) .N)))
+  accepted e = rw (opened-handle (alone d) a work e) (stands zeroHandle (handleFor (alone d) a) (found-length (layoutIn (alone d) a) a ((layoutIn (alone d) a) .N)))
 
-  none-past : (l : ℕ) → (openOf alone a work) .handle .figures .lanes ≤ l → laneAt ((packedUp ((openOf alone a work) .handle)) .lanes) l ≡ noLane
+  none-past : (l : ℕ) → (openOf (alone d) a work) .handle .figures .lanes ≤ l → laneAt ((packedUp ((openOf (alone d) a work) .handle)) .lanes) l ≡ noLane
   unfolding openOf handleFor layoutOf
-  none-past l = by-bool (eqb (openNumber alone a (length work)) 0) _
-      (λ t. rw t (λ u. past-put (foundLanes (layoutIn alone a) a ((layoutIn alone a) .N)) (replicate maxLanes noLane) l
-      (omega (arith, found-length (layoutIn alone a) a ((layoutIn alone a) .N))) ∙ zero-at maxLanes l))
+  none-past l = by-bool (eqb (openNumber (alone d) a (length work)) 0) _
+      (λ t. rw t (λ u. past-put (foundLanes (layoutIn (alone d) a) a ((layoutIn (alone d) a) .N)) (replicate maxLanes noLane) l
+      (omega (arith, found-length (layoutIn (alone d) a) a ((layoutIn (alone d) a) .N))) ∙ zero-at maxLanes l))
       (λ t. rw t (λ u. zero-at maxLanes l))
 
-  zero-past : (l : ℕ) → (openOf alone a work) .handle .figures .lanes ≤ l → Idle 0 0 0 (laneAt ((packedUp ((openOf alone a work) .handle)) .lanes) l)
+  zero-past : (l : ℕ) → (openOf (alone d) a work) .handle .figures .lanes ≤ l → Idle 0 0 0 (laneAt ((packedUp ((openOf (alone d) a work) .handle)) .lanes) l)
   zero-past l u = idle-is 0 0 0 _ (none-past l u)
 
 pub packing-claim : PackingClaim

@@ -13,9 +13,10 @@ use borrow.Author.Tests.{lt-ltb, le-leb, eq-eqb, ne-eqb}
 use Rattle.format.specs.Tests.{every}
 use Rattle.layout.specs.Figures.{lengthAllowed, figuresAllowed}
 use Rattle.layout.specs.Place.{Layout}
+use Rattle.layout.specs.Told.{distanceAllowed}
 use Rattle.machine.specs.declared.lane.Lane.{Lane}
 use Rattle.machine.specs.state.Lane.{noLane, writeStores, laneAllowed}
-use Rattle.machine.specs.state.Handle.{Handle, laneAt, distanceAllowed, handleAllowed, laidOut}
+use Rattle.machine.specs.state.Handle.{Handle, laneAt, handleAllowed, laidOut}
 
 pub unmapped : {A B : Type 0} (f : A → B) (l : List A) (n : ℕ) → length (map f l) ≡ n → length l ≡ n
 unmapped f l n e = sym (length-map l f) ∙ e
@@ -49,6 +50,10 @@ module _ (h : Handle) (n : ℕ) where
   pub handle-slice : lengthAllowed n ≡ true → (h .length ≡ n → ⊥) → false ≡ handleAllowed h n
   unfolding handleAllowed
   handle-slice p q = rw (p, ne-eqb _ _ q)
+
+  pub handle-layout : lengthAllowed n ≡ true → h .length ≡ n → distanceAllowed (h .distance) ≡ false → false ≡ handleAllowed h n
+  unfolding handleAllowed
+  handle-layout p q d = rw (p, eq-eqb _ _ q, d)
 
   pub handle-figures : lengthAllowed n ≡ true → h .length ≡ n → distanceAllowed (h .distance) ≡ true → figuresAllowed (h .figures) n ≡ false
       → false ≡ handleAllowed h n

@@ -17,9 +17,10 @@ use Rattle.layout.specs.Figures.{lengthAllowed, figuresAllowed}
 use Rattle.layout.specs.Place.{Layout}
 use Rattle.layout.specs.Fit.{Fit}
 use Rattle.format.proofs.Tests.{true-false, by-bool, and-intro, and-elim, all-elim, every-intro, every-elim, some-true, some-found}
-use Rattle.layout.proofs.Allowed.{allowed-of, of-allowed, fit-of}
+use Rattle.layout.proofs.Allowed.{distance-of, of-distance, distance-ok, allowed-of, of-allowed, fit-of}
 use Rattle.machine.specs.declared.lane.Lane.{Lane}
-use Rattle.machine.specs.state.Handle.{Handle, distanceAllowed, laneAt, handleAllowed, laidOut}
+use Rattle.layout.specs.Told.{distanceAllowed}
+use Rattle.machine.specs.state.Handle.{Handle, laneAt, handleAllowed, laidOut}
 use Rattle.machine.specs.state.Lane.{writeStores, laneAllowed, isBusy}
 use Rattle.machine.specs.Rules.{answer, FirstOf}
 use Rattle.machine.specs.calls.Reading.{readNumber, readOf}
@@ -50,7 +51,6 @@ use Rattle.machine.specs.claims.Running.{AsTheyCame, RunningClaim}
 use Rattle.machine.proofs.rules.Rules.{first-in, unguarded}
 use Rattle.machine.proofs.calls.Rule16.{lane-last, handle-last}
 use Rattle.machine.proofs.opening.Reflect.{length-ok, ok-length, bad-ok, ok-bad}
-use Rattle.machine.proofs.opening.Described.{told-distance}
 
 -- ---- rule 16
 
@@ -99,7 +99,7 @@ module _ (h : Handle) (n : ℕ) where
       record {
         size = length-ok n (p .0);
         match = eqb-true _ _ (q .0);
-        distance = eqb-true _ _ (d .0);
+        distance = distance-of (h .distance) (d .0);
         figures = allowed-of (h .figures) n (r .0);
         lanes = λ l u. lane-ok _ _ (every-elim (h .figures .lanes) lane-test (r .1) l u);
       }
@@ -107,14 +107,14 @@ module _ (h : Handle) (n : ℕ) where
   pub ok-handle : HandleOk h n → handleAllowed h n ≡ true
   unfolding lane-test
   ok-handle k =
-      sym (handle-last h n (ok-length n (k .size)) (k .match) (eq-eqb (h .distance) 16 (k .distance)) (of-allowed (h .figures) n (k .figures)))
+      sym (handle-last h n (ok-length n (k .size)) (k .match) (of-distance (h .distance) (k .distance)) (of-allowed (h .figures) n (k .figures)))
       ∙ every-intro (h .figures .lanes) lane-test (λ l u. ok-lane _ _ (k .lanes l u))
 
   -- so the figures of a handle that rule 16 lets pass fit the slice
   pub handle-fit : handleAllowed h n ≡ true → Fit (h .distance) (h .figures) n
   handle-fit e =
       let k = handle-ok e in
-      let d = told-distance (h .distance) (eq-eqb _ _ (k .distance)) in
+      let d = distance-ok (h .distance) (of-distance (h .distance) (k .distance)) in
       fit-of (h .distance) d (h .figures) n (k .figures) (k .size .multiple) (k .size .most)
 
 -- ---- rules 12 to 15

@@ -9,7 +9,6 @@ use native.Mathlib.Omega.{arith}
 use native.Mathlib.Decide.{decLt}
 use lib.Dec.{ltb}
 use lib.ListN.{length, take, drop, length-set, List·getD-eq-default}
-use borrow.Author.Tests.{eq-eqb}
 use Rattle.format.proofs.Tests.{true-false}
 use Rattle.words.specs.Word.{word, putWord}
 use Rattle.words.specs.Bytes.{Small, byteWord}
@@ -19,10 +18,11 @@ use Rattle.format.specs.Claims.{Bit31Alone, BothBits, namedBlock}
 use Rattle.format.proofs.InNumbers.{map-words}
 use Rattle.layout.specs.Figures.{Allowed}
 use Rattle.layout.specs.Place.{Layout, LayoutOk, layoutOf, at, inData}
+use Rattle.layout.specs.Told.{DistanceOk}
 use Rattle.layout.specs.declared.Figures.{Figures}
 use Rattle.words.proofs.Bytes.{word-at}
 use Rattle.layout.proofs.Offsets.{data-start, map-start}
-use Rattle.layout.proofs.Allowed.{layout-ok}
+use Rattle.layout.proofs.Allowed.{of-distance, distance-ok, layout-ok}
 use Rattle.machine.specs.declared.lane.Lane.{Lane}
 use Rattle.machine.specs.state.Handle.{Handle, laneAt, withLane, laidOut}
 use Rattle.machine.specs.state.Lane.{noLane, startedLane, laneAfter, finishedLane, writeStores}
@@ -34,7 +34,7 @@ use Rattle.machine.specs.calls.Writing.{Outcome, planOf, flogStore, stor
 use Rattle.machine.specs.words.Table.{lastByte, lastWord, storeByte, storeWord, OneWord, OneRecord, afterSteps, WriteTable, StepTable, StartTable, ReadTable}
 use Rattle.machine.proofs.stores.Stores.{in-arena}
 use Rattle.machine.proofs.invariant.Inv.{lane-same, lane-other}
-use Rattle.machine.proofs.opening.Described.{told-distance, allowed-arena}
+use Rattle.machine.proofs.opening.Described.{allowed-arena}
 use Rattle.machine.proofs.stores.Kinds.{PlanOk, store-fits}
 use Rattle.machine.proofs.invariant.Held.{lanes-in}
 use Rattle.machine.proofs.invariant.Steps.{stored-more, stored-last}
@@ -60,7 +60,7 @@ plan g l r u k = record {
 
 module _ (h : Handle) (a : List ℕ) (k : HandleOk h (length a)) where
   pub layout : LayoutOk (laidOut h)
-  layout = layout-ok (h .distance) (told-distance (h .distance) (eq-eqb _ _ (k .distance))) (h .figures) (length a) (k .figures) (k .size .most)
+  layout = layout-ok (h .distance) (distance-ok (h .distance) (of-distance (h .distance) (k .distance))) (h .figures) (length a) (k .figures) (k .size .most)
 
   -- the lane's record is one of the list
   pub listed : (l : ℕ) → l < h .figures .lanes → l < length (h .lanes)
@@ -95,20 +95,20 @@ one-record h l r P p u = record {
 -- ---- a step
 
 module _ (d : ℕ) (f : Figures) (l : ℕ) (r : Lane) (buffer : List ℕ) (k : ℕ) where
-  store-byte : d ≡ 16 → (n : ℕ) → Allowed f n → 4 * at (layoutOf d f) ((storeAt (layoutOf d f) (planOf l r) buffer k) .place) ≡ storeByte f l r k
+  store-byte : DistanceOk d → (n : ℕ) → Allowed f n → 4 * at (layoutOf d f) ((storeAt (layoutOf d f) (planOf l r) buffer k) .place) ≡ storeByte d f l r k
   unfolding storeAt storeByte
-  store-byte near n ok = unfold layoutOf in (go (ltb k (f .size / 4)) (k - f .size / 4))
+  store-byte apart n ok = unfold layoutOf in (go (ltb k (f .size / 4)) (k - f .size / 4))
     where
-      last : (j : ℕ) → 4 * at (layoutOf d f) ((flogStore (planOf l r) j) .place) ≡ lastByte f l r j
-      last zero = omega (arith, flog-byte d f n ok near l (r .half) 0)
-      last (suc zero) = flog-byte d f n ok near l (r .half) 1
-      last (suc (suc zero)) = flog-byte d f n ok near l (r .half) 2
-      last (suc (suc (suc zero))) = flog-byte d f n ok near l (r .half) 3
+      last : (j : ℕ) → 4 * at (layoutOf d f) ((flogStore (planOf l r) j) .place) ≡ lastByte d f l r j
+      last zero = omega (arith, flog-byte d f n ok apart l (r .half) 0)
+      last (suc zero) = flog-byte d f n ok apart l (r .half) 1
+      last (suc (suc zero)) = flog-byte d f n ok apart l (r .half) 2
+      last (suc (suc (suc zero))) = flog-byte d f n ok apart l (r .half) 3
       last (suc (suc (suc (suc j)))) = map-start d f n ok (r .sector .0)
 
       go : (t : Bool) (j : ℕ)
           → 4 * at (layoutOf d f) ((cond t (record { place = inData (r .block .0) k; value = word buffer k }) (flogStore (planOf l r) j)) .place)
-          ≡ cond t (f .dataoff + r .block .0 * f .internal + 4 * k) (lastByte f l r j)
+          ≡ cond t (f .dataoff + r .block .0 * f .internal + 4 * k) (lastByte d f l r j)
       go true j = data-start d f n ok (r .block .0) k
       go false j = last j
 
@@ -153,7 +153,7 @@ module _ (a : List ℕ) (h : Handle) where
       let u = found .lane in
       let st = storeAt g (planOf l r) buffer (r .made) in
       let fits = store-fits g (layout h a k) (planOf l r) (plan g l r (lanes-in d f l u) (k .lanes l u)) buffer bytes (r .made) (k .lanes l u .made) in
-      let o = store-byte d f l r buffer (r .made) (k .distance) (length a) (k .figures) in
+      let o = store-byte d f l r buffer (r .made) (distance-ok d (of-distance d (k .distance))) (length a) (k .figures) in
       let i = in-arena g (layout h a k) a (allowed-arena d f a (k .figures) (k .size .multiple) small) (st .place) (fits .range) in
       record {
         store = rw (e, ← store-word d f l r buffer (r .made)) (one-word a (at g (st .place)) (st .value) _ o (rw o at i) (fits .small));

@@ -15,10 +15,11 @@ use Rattle.format.specs.MapWord.{mappedTo}
 use Rattle.format.proofs.Tests.{true-false, by-bool}
 use Rattle.layout.specs.Figures.{Allowed, freshFigures}
 use Rattle.layout.specs.Place.{Layout, LayoutOk, layoutOf, inData, inMap, inFlog}
+use Rattle.layout.specs.Claims.{Distance}
 use Rattle.layout.specs.Told.{alone}
 use Rattle.layout.specs.declared.Figures.{Figures}
 use Rattle.layout.specs.declared.Told.{Told}
-use Rattle.machine.specs.state.Handle.{Handle, laneAt, laidOut, ToldOk}
+use Rattle.machine.specs.state.Handle.{Handle, laneAt, laidOut}
 use Rattle.machine.specs.state.Lane.{startedLane, writeStores}
 use Rattle.machine.specs.state.Stores.{stored, putAll}
 use Rattle.machine.specs.state.Flog.{mapWord, mapBlock, newerWord}
@@ -36,7 +37,7 @@ use Rattle.machine.proofs.stores.Stores.{Arena, elsewhere, putAll-arena
 use Rattle.machine.proofs.stores.Kinds.{Kind, isData, isLog, isMap, kind, PlanOk, first-more}
 use Rattle.machine.proofs.stores.MapStores.{mapStore, word-other, word-here, map-fits}
 use Rattle.machine.proofs.stores.Offsets.{map-word}
-use Rattle.machine.proofs.opening.Described.{told-alone, allowed-arena, described-figures, described-layout, described-arena}
+use Rattle.machine.proofs.opening.Described.{allowed-arena, described-figures, described-layout, described-arena}
 use Rattle.machine.proofs.opening.Opens.{Opens, open-zero, lanes-pass}
 use Rattle.machine.proofs.opening.Mends.{readable-of, mends-take, mend-keeps, mends-arena}
 use Rattle.machine.proofs.calls.Accepted.{start-found, step-found, write-found}
@@ -148,74 +149,74 @@ module _ (a : List ℕ) (h : Handle) (small : Small a) where
 
 -- ---- openings
 
-module _ (τ : Told) (told : ToldOk τ) where
+module _ (τ : Told) where
   module _ (a : List ℕ) (small : Small a) (o : Opens τ a) where
     -- the stores for the lanes below n
     part-kept : (n : ℕ) → n ≤ (layoutIn τ a) .N → MapKept (figuresIn a) a (putAll (layoutIn τ a) (mends (layoutIn τ a) a n) a)
     part-kept n few =
-        in-bytes (τ .distance) (figuresIn a) (length a) (described-figures τ told a (o .info)) (described-layout τ told a (o .info)) a _
-        (mends-kept (layoutIn τ a) (described-layout τ told a (o .info)) a (described-arena τ told a (o .info) small)
+        in-bytes (τ .distance) (figuresIn a) (length a) (described-figures τ a (o .info)) (described-layout τ a (o .info)) a _
+        (mends-kept (layoutIn τ a) (described-layout τ a (o .info)) a (described-arena τ a (o .info) small)
         (lanes-pass (layoutIn τ a) a (o .lanes)) n few)
 
   open-kept : (a work : List ℕ) → Small a → MapKept (figuresIn a) a ((openOf τ a work) .arena)
   unfolding openOf
   open-kept a work small = by-bool (eqb ((openOf τ a work) .number) 0) _
-      (λ t. rw t (part-kept a small (open-zero τ told a (length work) (eqb-true _ _ t) .0) ((layoutIn τ a) .N) (omega arith)))
+      (λ t. rw t (part-kept a small (open-zero τ a (length work) (eqb-true _ _ t) .0) ((layoutIn τ a) .N) (omega arith)))
       (λ t. rw t (map-same (figuresIn a) a))
 
   cut-kept : (a work : List ℕ) (k : ℕ) → Small a → MapKept (figuresIn a) a ((cutOpenOf τ a work k) .arena)
   unfolding cutOpenOf
   cut-kept a work k small = by-bool (eqb ((cutOpenOf τ a work k) .number) 0) _
       (λ t. let r = mends-take (layoutIn τ a) a ((layoutIn τ a) .N) k in
-      rw (t, r .2) (part-kept a small (open-zero τ told a (length work) (eqb-true _ _ t) .0) (r .0) (r .1)))
+      rw (t, r .2) (part-kept a small (open-zero τ a (length work) (eqb-true _ _ t) .0) (r .0) (r .1)))
       (λ t. rw t (map-same (figuresIn a) a))
 
   -- ---- histories
 
   event-kept : (x : State) (e : Event) → HeldIn τ x → MapKept (x .handle .figures) (x .arena) ((afterEvent τ x e) .arena)
-  event-kept x (called c) k = calls-kept (x .arena) (x .handle) (held-small τ told x k) c
-  event-kept x (opened work) k = opening-cases τ told x work (λ (y : State). MapKept (x .handle .figures) (x .arena) (y .arena))
-      (λ _. rw (held-figures τ told x k) at (open-kept (x .arena) work (held-small τ told x k))) (map-same (x .handle .figures) (x .arena))
+  event-kept x (called c) k = calls-kept (x .arena) (x .handle) (held-small τ x k) c
+  event-kept x (opened work) k = opening-cases τ x work (λ (y : State). MapKept (x .handle .figures) (x .arena) (y .arena))
+      (λ _. rw (held-figures τ x k) at (open-kept (x .arena) work (held-small τ x k))) (map-same (x .handle .figures) (x .arena))
 
   events-kept : (x : State) (es : List Event) → SmallEvents es → HeldIn τ x → MapKept (x .handle .figures) (x .arena) ((runEvents τ x es) .arena)
   unfolding runs
   events-kept x [] small k = map-same (x .handle .figures) (x .arena)
   events-kept x (e ∷ es) small k =
       map-then (x .handle .figures) (x .arena) ((afterEvent τ x e) .arena) ((runEvents τ (afterEvent τ x e) es) .arena) (event-kept x e k)
-      (rw (alike-event τ told x e k .figures) at
-      (events-kept (afterEvent τ x e) es (λ d m. small d (List·Memᴰ·tail m)) (held-event τ told x e (small e (List·Memᴰ·head refl)) k)))
+      (rw (alike-event τ x e k .figures) at
+      (events-kept (afterEvent τ x e) es (λ d m. small d (List·Memᴰ·tail m)) (held-event τ x e (small e (List·Memᴰ·head refl)) k)))
 
 -- an arena that we made
-module _ (o : Wanted) (a work : List ℕ) (hs : List Happening) (small : Small a) (first : Small (o .first)) (second : Small (o .second))
+module _ (d : ℕ) (w : Distance d) (o : Wanted) (a work : List ℕ) (hs : List Happening) (small : Small a) (first : Small (o .first)) (second : Small (o .second))
     (e : (makeOf o a) .number ≡ 0) (room : o .sectors + o .lanes ≤ length work) (smalls : SmallEvents (latestOf hs))
-    (harmless : AllHarmless alone (openedFrom alone ((makeOf o a) .arena) work) hs) where
+    (harmless : AllHarmless (alone d) (openedFrom (alone d) ((makeOf o a) .arena) work) hs) where
   abbrev f : Figures
   f = freshFigures (o .size) (o .sectors) (o .lanes)
 
   abbrev x : State
-  x = openedFrom alone ((makeOf o a) .arena) work
+  x = openedFrom (alone d) ((makeOf o a) .arena) work
 
   abbrev y : State
-  y = leaves alone ((makeOf o a) .arena) work hs
+  y = leaves (alone d) ((makeOf o a) .arena) work hs
 
   history-kept : MapKept f (x .arena) (y .arena)
   history-kept =
-      subst (λ (g : Figures). MapKept g (x .arena) (y .arena)) (made-figures o a work small first second e room)
-      (subst (λ (z : State). MapKept (x .handle .figures) (x .arena) (z .arena)) (sym (latest-state alone told-alone hs x harmless))
-      (events-kept alone told-alone x (latestOf hs) smalls (made-held o a work small first second e room)))
+      subst (λ (g : Figures). MapKept g (x .arena) (y .arena)) (made-figures d w o a work small first second e room)
+      (subst (λ (z : State). MapKept (x .handle .figures) (x .arena) (z .arena)) (sym (latest-state (alone d) hs x harmless))
+      (events-kept (alone d) x (latestOf hs) smalls (made-held d w o a work small first second e room)))
 
   ours : (s : ℕ) → s < o .sectors → KeptOrMapped (o .sectors + o .lanes) 0 (mapWordIn f (y .arena) s)
   unfolding freshFigures
   ours s u =
       let made = making-claim .made o a small first second e in
       subst (λ (w : ℕ). KeptOrMapped (o .sectors + o .lanes) w (mapWordIn f (y .arena) s))
-      (ap (λ (z : List ℕ). mapWordIn f z s) (made .arena work) ∙ made .map s u) (history-kept s u)
+      (ap (λ (z : List ℕ). mapWordIn f z s) (made .opens d w .arena work) ∙ made .map s u) (history-kept s u)
 
 pub written-words : WrittenWords
 written-words = record {
   calls = λ a h c small. calls-kept a h small c;
-  opening = open-kept alone told-alone;
-  cut-opening = cut-kept alone told-alone;
+  opening = λ d. open-kept (alone d);
+  cut-opening = λ d. cut-kept (alone d);
   making = λ o a small first second e s u. making-claim .made o a small first second e .map s u;
   ours = ours;
   stays-clean = stays-clean;

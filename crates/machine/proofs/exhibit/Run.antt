@@ -1,6 +1,6 @@
 -- The run of `Exhibited`: any arena with its figures that opens and changes nothing follows the book, and the made arena is one.
 use mathlib.Core.Path.{_≡_, refl, sym, ap, _∙_, subst}
-use mathlib.Core.Logic.{_≢_}
+use mathlib.Core.Logic.{_≢_, inl, inr}
 use mathlib.Core.List.{List, [], _∷_, _++_, map, Memᴰ·of-map}
 use Prim.Native.Nat.{ℕ, _+_, _≤_, _<_}
 use native.Mathlib.Omega.{arith}
@@ -13,7 +13,7 @@ use Rattle.machine.specs.calls.Making.{makeNumber, makeOf}
 use Rattle.machine.specs.Rules.{answer}
 use Rattle.machine.specs.state.Handle.{noHandle}
 use Rattle.machine.specs.state.Flog.{mapWord}
-use Rattle.machine.specs.calls.Opening.{layoutIn, figuresIn, openOf, cutOpenOf}
+use Rattle.machine.specs.calls.Opening.{layoutIn, figuresIn, openNumber, openOf, cutOpenOf}
 use Rattle.machine.specs.calls.Writing.{stepOf}
 use Rattle.machine.specs.claims.Making.{FreshArena}
 use Rattle.machine.specs.calls.History.{
@@ -36,11 +36,12 @@ use Rattle.machine.specs.calls.History.{
   SmallEvent,
   SmallEvents,
 }
-use Rattle.machine.specs.calls.Asides.{Happening, latest, aside, shortened, latestOf, afterOne, AllHarmless}
+use Rattle.machine.specs.calls.Asides.{Happening, latest, aside, tried, shortened, latestOf, afterOne, AllHarmless}
 use Rattle.machine.specs.models.Row.{OneBuffer, firstRow}
 use Rattle.machine.specs.claims.DemandTwo.{AllIdle, leaves}
 use Rattle.machine.specs.models.Book.{Entry, bookAfter, lastWords}
 use Rattle.machine.specs.claims.DemandThree.{lends, Ready, Listed}
+use Rattle.machine.specs.claims.Opening.{CutsTold}
 use Rattle.machine.specs.claims.Exhibit.{exhibitWanted, exhibitFound, exhibitWork, exhibitBytes, Exhibited}
 use Rattle.machine.proofs.opening.Opens.{open-zero, opened-idle}
 use Rattle.machine.proofs.calls.Accepted.{step-found}
@@ -60,18 +61,27 @@ use Rattle.machine.proofs.exhibit.LentBytes.{LendsIn, lent-one}
 use Rattle.machine.proofs.exhibit.Marked.{marked-is, read-by-flags}
 use Rattle.machine.proofs.exhibit.Sloppy.{refused-sloppy}
 use Rattle.machine.proofs.exhibit.Book.{together, further, onward, both, goes-finished, goes-together, then-refused, goes-all, one-last}
+use Rattle.layout.specs.Claims.{Distance}
 use Rattle.layout.specs.Told.{alone}
-use Rattle.machine.proofs.opening.Described.{told-alone}
+
+-- no layout of 48: refused with 16
+refused-layout : (b work : List ℕ) → (openOf (alone 48) b work) .number ≢ 0
+unfolding openOf openNumber answer
+refused-layout b work e = omega arith
+
+refused-cut-layout : (b work : List ℕ) (k : ℕ) → (cutOpenOf (alone 48) b work k) .number ≢ 0
+unfolding cutOpenOf openNumber answer
+refused-cut-layout b work k e = omega arith
 
 -- ---- an arena that opens and changes nothing
 
 -- such an arena, and the bytes that the calls lend
-record Given (a work : List ℕ) (bytes : ℕ → List ℕ) (buffer : List ℕ) : Type 0 where
+record Given (d : ℕ) (a work : List ℕ) (bytes : ℕ → List ℕ) (buffer : List ℕ) : Type 0 where
   small : Small a
-  opens : (openOf alone a work) .number ≡ 0
-  same : (openOf alone a work) .arena ≡ a
+  opens : (openOf (alone d) a work) .number ≡ 0
+  same : (openOf (alone d) a work) .arena ≡ a
   figures : figuresIn a ≡ freshFigures 512 60 4
-  unwritten : (s : ℕ) → s < 60 → mapWord (layoutIn alone a) a s ≡ 0
+  unwritten : (s : ℕ) → s < 60 → mapWord (layoutIn (alone d) a) a s ≡ 0
   room : 64 ≤ length work
   small-work : Small work
   size : (l : ℕ) → length (bytes l) ≡ 512
@@ -79,30 +89,30 @@ record Given (a work : List ℕ) (bytes : ℕ → List ℕ) (buffer : List ℕ) 
   size-buffer : length buffer ≡ 512
   small-buffer : Small buffer
 
-module _ (a work : List ℕ) (bytes : ℕ → List ℕ) (buffer : List ℕ) (g : Given a work bytes buffer) where
+module _ (d : ℕ) (a work : List ℕ) (bytes : ℕ → List ℕ) (buffer : List ℕ) (g : Given d a work bytes buffer) where
   abbrev y : State
-  y = openedFrom alone a work
+  y = openedFrom (alone d) a work
 
   abbrev calls : List Call
   calls = together bytes ++ further bytes buffer
 
-  held : HeldIn alone y
-  held = held-open alone told-alone a work (g .small) (g .opens)
+  held : HeldIn (alone d) y
+  held = held-open (alone d) a work (g .small) (g .opens)
 
   idle : AllIdle (y .handle)
-  idle = opened-idle alone told-alone a work (g .opens)
+  idle = opened-idle (alone d) a work (g .opens)
 
   figures : figuresIn (y .arena) ≡ freshFigures 512 60 4
   figures = ap figuresIn (g .same) ∙ g .figures
 
-  unwritten : (s : ℕ) → s < 60 → mapWord (layoutIn alone (y .arena)) (y .arena) s ≡ 0
+  unwritten : (s : ℕ) → s < 60 → mapWord (layoutIn (alone d) (y .arena)) (y .arena) s ≡ 0
   unwritten s u = rw (g .same) (g .unwritten s u)
 
-  first : FirstArena alone (y .arena)
-  first = first-arena alone told-alone (y .arena) (y .handle) held idle
+  first : FirstArena (alone d) (y .arena)
+  first = first-arena (alone d) (y .arena) (y .handle) held idle
 
-  sim : Sim alone told-alone (y .arena) bytes [] y
-  sim = sim-start alone told-alone (y .arena) (y .handle) bytes held idle
+  sim : Sim (alone d) (y .arena) bytes [] y
+  sim = sim-start (alone d) (y .arena) (y .handle) bytes held idle
 
   -- a call that lends bytes, and its lane's
   abbrev Fit : Call → Type 0
@@ -130,23 +140,23 @@ module _ (a work : List ℕ) (bytes : ℕ → List ℕ) (buffer : List ℕ) (g :
   smalls : SmallCalls calls
   smalls c m = each c m .0
 
-  ran : Goes (y .arena) bytes [] calls (entryOf 2 10 133 ∷ both 132 1)
-  ran = goes-all (y .arena) first figures unwritten bytes (g .size) buffer (g .size-buffer)
+  ran : Goes (alone d) (y .arena) bytes [] calls (entryOf 2 10 133 ∷ both 132 1)
+  ran = goes-all (alone d) (y .arena) first figures unwritten bytes (g .size) buffer (g .size-buffer)
 
-  ran-finished : Goes (y .arena) bytes [] (together bytes ++ onward bytes) (both 133 133)
-  ran-finished = goes-finished (y .arena) first figures unwritten bytes (g .size)
+  ran-finished : Goes (alone d) (y .arena) bytes [] (together bytes ++ onward bytes) (both 133 133)
+  ran-finished = goes-finished (alone d) (y .arena) first figures unwritten bytes (g .size)
 
   -- a read, and an opening that changes nothing
   before : List Happening
   before = latest (called (read 7 buffer)) ∷ latest (opened work) ∷ []
 
-  reached : y ≡ leaves alone a work before
+  reached : y ≡ leaves (alone d) a work before
   unfolding runs before
   reached =
-      let k = opening-claim alone told-alone .again a work work (g .small) (g .opens) (unfold layoutOf in (rw (g .figures) (unfold freshFigures in (g .room)))) in
+      let k = opening-claim (alone d) .again a work work (g .small) (g .opens) (unfold layoutOf in (rw (g .figures) (unfold freshFigures in (g .room)))) in
       rw (k .number) (λ j. record { arena = sym (k .arena) j; handle = sym (k .handle) j })
 
-  ready : Ready alone y
+  ready : Ready (alone d) y
   ready = record {
     found = a;
     work = work;
@@ -161,16 +171,16 @@ module _ (a work : List ℕ) (bytes : ℕ → List ℕ) (buffer : List ℕ) (g :
   }
 
   -- a list of calls that lend their bytes, and go as the book says
-  listed-as : (cs : List Call) (b : List Entry) → Each Fit cs → Goes (y .arena) bytes [] cs b → Listed alone y cs bytes
+  listed-as : (cs : List Call) (b : List Entry) → Each Fit cs → Goes (alone d) (y .arena) bytes [] cs b → Listed (alone d) y cs bytes
   listed-as cs b fit go =
       let small : SmallCalls cs = λ c m. fit c m .0 in
-      let p = orderly-premise (y .arena) bytes first cs [] y sim small (go .orderly) in
+      let p = orderly-premise (alone d) (y .arena) bytes first cs [] y sim small (go .orderly) in
       record { ready = ready; small = small; differ = p .1; same-bytes = p .0 }
 
-  listed : Listed alone y calls bytes
+  listed : Listed (alone d) y calls bytes
   listed = listed-as calls _ each ran
 
-  finished : Listed alone y (together bytes ++ onward bytes) bytes
+  finished : Listed (alone d) y (together bytes ++ onward bytes) bytes
   finished = listed-as (together bytes ++ onward bytes) _ each-finished ran-finished
 
   some-history : length (listed .ready .history) ≡ 2
@@ -182,24 +192,28 @@ module _ (a work : List ℕ) (bytes : ℕ → List ℕ) (buffer : List ℕ) (g :
   events = map called calls ++ (opened work ∷ [])
 
   abbrev history : List Happening
-  history = aside noHandle (step 0 (bytes 0)) ∷ shortened [] 1 ∷ map latest events
+  history = aside noHandle (step 0 (bytes 0)) ∷ shortened d [] 1 ∷ tried 48 work ∷ map latest events
 
   latest-all : (es : List Event) → latestOf (map latest es) ≡ es
   unfolding latestOf
   latest-all [] = refl
   latest-all (e ∷ es) = ap (λ (ds : List Event). e ∷ ds) (latest-all es)
 
-  harmless-all : (es : List Event) (x : State) → AllHarmless alone x (map latest es)
+  harmless-all : (es : List Event) (x : State) → AllHarmless (alone d) x (map latest es)
   harmless-all [] x = tt
-  harmless-all (e ∷ es) x = (tt, harmless-all es (afterEvent alone x e))
+  harmless-all (e ∷ es) x = (tt, harmless-all es (afterEvent (alone d) x e))
 
-  -- an empty handle is refused with 16, and no room with 5
-  harmless : AllHarmless alone y history
+  -- an empty handle is refused with 16, no room with 5, and a layout that there is not with 16
+  harmless : AllHarmless (alone d) y history
+  unfolding runs
   harmless = (
     refused-step,
     (
       rw (running-claim .step-refused (y .arena) noHandle 0 (bytes 0) refused-step .arena) refused-cut,
-      harmless-all events (afterOne alone (afterOne alone y (aside noHandle (step 0 (bytes 0)))) (shortened [] 1)),
+      (
+        refused-layout (afterOne (alone d) (afterOne (alone d) y (aside noHandle (step 0 (bytes 0)))) (shortened d [] 1) .arena) work,
+        harmless-all events (runs (afterOne (alone d)) y (aside noHandle (step 0 (bytes 0)) ∷ shortened d [] 1 ∷ tried 48 work ∷ [])),
+      ),
     ),
   )
     where
@@ -208,10 +222,10 @@ module _ (a work : List ℕ) (bytes : ℕ → List ℕ) (buffer : List ℕ) (g :
           let k = handle-ok noHandle (length (y .arena)) (step-found (y .arena) noHandle 0 (bytes 0) (unfold stepOf in e) .handle) in
           omega (arith, k .match, k .size .least)
 
-      refused-cut : (cutOpenOf alone (y .arena) [] 1) .number ≢ 0
+      refused-cut : (cutOpenOf (alone d) (y .arena) [] 1) .number ≢ 0
       refused-cut e =
-          let z = opening-claim alone told-alone .cut (y .arena) [] 1 .number in
-          let few = open-zero alone told-alone (y .arena) 0 (unfold openOf in (sym z ∙ e)) .1 in
+          let z = opening-claim (alone d) .cut (y .arena) [] 1 .number in
+          let few = open-zero (alone d) (y .arena) 0 (unfold openOf in (sym z ∙ e)) .1 in
           unfold layoutOf freshFigures in (omega (arith, rw figures at few))
 
   small-events : SmallEvents (latestOf history)
@@ -228,19 +242,23 @@ module _ (a work : List ℕ) (bytes : ℕ → List ℕ) (buffer : List ℕ) (g :
 
   refused : (reply (run y (together bytes)) (start 0 9)) .number ≡ 12
   refused =
-      let t = goes-together (y .arena) first figures unwritten bytes (g .size) in
-      let z = orderly-sim (y .arena) bytes first (together bytes) [] y sim (λ c m. each-together c m .0) (t .orderly) in
-      number-of alone told-alone (y .arena) bytes first _ _ z (start 0 9) ∙ rw (t .book) (then-refused (y .arena) first figures unwritten bytes (g .size))
+      let t = goes-together (alone d) (y .arena) first figures unwritten bytes (g .size) in
+      let z = orderly-sim (alone d) (y .arena) bytes first (together bytes) [] y sim (λ c m. each-together c m .0) (t .orderly) in
+      number-of (alone d) (y .arena) bytes first _ _ z (start 0 9) ∙ rw (t .book) (then-refused (alone d) (y .arena) first figures unwritten bytes (g .size))
 
-  tallies : bookAfter alone (y .arena) [] calls ≡ entryOf 2 10 133 ∷ both 132 1
+  tallies : bookAfter (alone d) (y .arena) [] calls ≡ entryOf 2 10 133 ∷ both 132 1
   tallies = ran .book
 
-  mended : (openOf alone ((run y calls) .arena) work) .mended ≡ 1
+  mended : (openOf (alone d) ((run y calls) .arena) work) .mended ≡ 1
   unfolding freshFigures
   mended =
-      let z = orderly-sim (y .arena) bytes first calls [] y sim smalls (ran .orderly) in
-      after-cut alone told-alone (y .arena) bytes first _ _ z (y .handle) held work (rw figures (g .room)) .mended
-      ∙ ap (λ (b : List Entry). length (lastWords alone (y .arena) b)) (ran .book) ∙ one-last (y .arena) first figures unwritten bytes (g .size)
+      let z = orderly-sim (alone d) (y .arena) bytes first calls [] y sim smalls (ran .orderly) in
+      after-cut (alone d) (y .arena) bytes first _ _ z (y .handle) held work (rw figures (g .room)) .mended
+      ∙ ap (λ (b : List Entry). length (lastWords (alone d) (y .arena) b)) (ran .book) ∙ one-last (alone d) (y .arena) first figures unwritten bytes (g .size)
+
+  -- a cut opening in the handle's layout, and one in a layout that there is not
+  cuts-told : CutsTold (alone d) (record { layout = d; work = work; stores = 0 } ∷ record { layout = 48; work = work; stores = 1 } ∷ []) ((run y calls) .arena)
+  cuts-told = (inl refl, (inr (refused-cut-layout _ work 1), tt))
 
 -- ---- the made arena
 
@@ -258,15 +276,15 @@ number = ap (makeNumber exhibitWanted) (length-replicate {A = ℕ} 49152 0) ∙ 
 pub made : FreshArena exhibitWanted (replicate 49152 0)
 made = making-claim .made exhibitWanted (replicate 49152 0) (zeroes 49152) (zeroes 16) (zeroes 16) number
 
-given : Given exhibitFound exhibitWork exhibitBytes (replicate 512 0)
-given =
+given : (d : ℕ) → Distance d → Given d exhibitFound exhibitWork exhibitBytes (replicate 512 0)
+given d w =
     let u : 64 ≤ length exhibitWork = omega (arith, length-replicate {A = ℕ} 64 0) in
     record {
       small = made-small exhibitWanted (replicate 49152 0) (zeroes 49152) (zeroes 16) (zeroes 16) number;
-      opens = made .number exhibitWork u;
-      same = made .arena exhibitWork;
+      opens = made .opens d w .number exhibitWork u;
+      same = made .opens d w .arena exhibitWork;
       figures = made .figures;
-      unwritten = map-words exhibitWanted (replicate 49152 0) (zeroes 49152) (zeroes 16) (zeroes 16) number;
+      unwritten = map-words exhibitWanted (replicate 49152 0) (zeroes 49152) (zeroes 16) (zeroes 16) number d w;
       room = u;
       small-work = zeroes 64;
       size = λ l. length-replicate {A = ℕ} 512 (l + 1);
@@ -276,20 +294,21 @@ given =
     }
 
 pub exhibited : Exhibited
-exhibited = record {
-  small = given .small;
-  small-events = small-events exhibitFound exhibitWork exhibitBytes (replicate 512 0) given;
-  opens = given .opens;
-  one-buffer = one-buffer exhibitFound exhibitWork exhibitBytes (replicate 512 0) given;
-  harmless = harmless exhibitFound exhibitWork exhibitBytes (replicate 512 0) given;
-  listed = listed exhibitFound exhibitWork exhibitBytes (replicate 512 0) given;
-  some-history = some-history exhibitFound exhibitWork exhibitBytes (replicate 512 0) given;
-  finished = finished exhibitFound exhibitWork exhibitBytes (replicate 512 0) given;
-  refused = refused exhibitFound exhibitWork exhibitBytes (replicate 512 0) given;
-  tallies = tallies exhibitFound exhibitWork exhibitBytes (replicate 512 0) given;
-  all-finished = ran-finished exhibitFound exhibitWork exhibitBytes (replicate 512 0) given .book;
-  mended = mended exhibitFound exhibitWork exhibitBytes (replicate 512 0) given;
-  marked = rw (marked-is exhibitFound)
-      (read-by-flags exhibitFound exhibitWork (given .small) (given .opens) (given .same) (given .figures) (given .unwritten) (given .room));
-  sloppy = refused-sloppy exhibitFound exhibitWork (given .small) (given .opens) (given .same) (given .figures) (given .unwritten) (given .room);
+exhibited d w = let k = given d w in record {
+  small = k .small;
+  small-events = small-events d exhibitFound exhibitWork exhibitBytes (replicate 512 0) k;
+  opens = k .opens;
+  one-buffer = one-buffer d exhibitFound exhibitWork exhibitBytes (replicate 512 0) k;
+  harmless = harmless d exhibitFound exhibitWork exhibitBytes (replicate 512 0) k;
+  listed = listed d exhibitFound exhibitWork exhibitBytes (replicate 512 0) k;
+  some-history = some-history d exhibitFound exhibitWork exhibitBytes (replicate 512 0) k;
+  finished = finished d exhibitFound exhibitWork exhibitBytes (replicate 512 0) k;
+  refused = refused d exhibitFound exhibitWork exhibitBytes (replicate 512 0) k;
+  tallies = tallies d exhibitFound exhibitWork exhibitBytes (replicate 512 0) k;
+  all-finished = ran-finished d exhibitFound exhibitWork exhibitBytes (replicate 512 0) k .book;
+  mended = mended d exhibitFound exhibitWork exhibitBytes (replicate 512 0) k;
+  cuts = cuts-told d exhibitFound exhibitWork exhibitBytes (replicate 512 0) k;
+  marked = rw (marked-is d exhibitFound)
+      (read-by-flags d exhibitFound exhibitWork (k .small) (k .opens) (k .same) (k .figures) (k .unwritten) (k .room));
+  sloppy = refused-sloppy d w exhibitFound exhibitWork (k .small) (k .opens) (k .same) (k .figures) (k .unwritten) (k .room);
 }

@@ -17,7 +17,7 @@ use Rattle.layout.specs.declared.Figures.{Figures}
 use Rattle.format.proofs.Tests.{and-elim}
 use Rattle.machine.specs.declared.lane.Lane.{Lane}
 use Rattle.machine.specs.state.Lane.{laneAllowed, isBusy}
-use Rattle.machine.specs.state.Handle.{laneAt, ToldOk}
+use Rattle.machine.specs.state.Handle.{laneAt}
 use Rattle.machine.specs.state.Stores.{Store, stored, putAll}
 use Rattle.machine.specs.calls.Opening.{figuresIn, layoutIn, openOf, handleFor}
 use Rattle.machine.proofs.stores.Members.{each-one}
@@ -46,7 +46,7 @@ module _ (τ : Told) where
     pub figures : figuresIn a ≡ f
     pub inv : Inv (layoutOf d f) a lanes
 
-module _ (τ : Told) (told : ToldOk τ) where
+module _ (τ : Told) where
   module _ (a : List ℕ) (d : ℕ) (f : Figures) (lanes : List Lane) (k : Good τ a d f lanes) where
     pub good-figures : figuresAllowed f (length a) ≡ true
     good-figures = rw (k .figures) at (and-elim (headerAllowed (τ .next) (infoBlockOf a)) (figuresAllowed (figuresIn a) (length a)) (k .info .allowed) .1)
@@ -57,12 +57,12 @@ module _ (τ : Told) (told : ToldOk τ) where
       where
         kept : InRange (layoutIn τ a) (st .place) → infoBlockOf (stored (layoutIn τ a) st a) ≡ infoBlockOf a
         kept r = rw (putAll-one (layoutIn τ a) [] st a, putAll-none) at
-            (info-kept τ told a (k .info) (k .inv .arena .bytes .small) (st ∷ []) (each-one (λ (su : Store). InRange (layoutIn τ a) (su .place)) st r))
+            (info-kept τ a (k .info) (k .inv .arena .bytes .small) (st ∷ []) (each-one (λ (su : Store). InRange (layoutIn τ a) (su .place)) st r))
 
     pub good-stored : (st : Store) → InRange (layoutOf d f) (st .place) → (lanes′ : List Lane) → Inv (layoutOf d f) (stored (layoutOf d f) st a) lanes′
         → Good τ (stored (layoutOf d f) st a) d f lanes′
     good-stored st r lanes′ i = record {
-      info = described-same τ told a (stored (layoutOf d f) st a) (length-putWord a (at (layoutOf d f) (st .place)) (st .value)) (good-info st r) (k .info);
+      info = described-same τ a (stored (layoutOf d f) st a) (length-putWord a (at (layoutOf d f) (st .place)) (st .value)) (good-info st r) (k .info);
       distance = k .distance;
       figures = ap figuresOf (good-info st r) ∙ k .figures;
       inv = i;
@@ -71,12 +71,12 @@ module _ (τ : Told) (told : ToldOk τ) where
     -- ---- opening it
 
     pub good-opens : Opens τ a
-    good-opens = consistent-opens τ told a (k .info) (rw (k .distance, k .figures) (inv-consistent (layoutOf d f) a lanes (k .inv)))
+    good-opens = consistent-opens τ a (k .info) (rw (k .distance, k .figures) (inv-consistent (layoutOf d f) a lanes (k .inv)))
 
     module _ (work : List ℕ) (room : f .blocks ≤ length work) where
       pub good-number : (openOf τ a work) .number ≡ 0
       unfolding openOf
-      good-number = zero-open τ told a (length work) good-opens (rw (k .distance, k .figures) (blocks-in room))
+      good-number = zero-open τ a (length work) good-opens (rw (k .distance, k .figures) (blocks-in room))
         where
           blocks-in : f .blocks ≤ length work → (layoutOf d f) .I ≤ length work
           blocks-in u = unfold layoutOf in u
@@ -107,13 +107,13 @@ module _ (τ : Told) (told : ToldOk τ) where
       → Good τ ((openOf τ a work) .arena) ((openOf τ a work) .handle .distance) ((openOf τ a work) .handle .figures) ((openOf τ a work) .handle .lanes)
   unfolding openOf handleFor
   good-open a work small e =
-      let o = open-zero τ told a (length work) e .0 in
+      let o = open-zero τ a (length work) e .0 in
       let g = layoutIn τ a in
       let all : g .N ≤ g .N = omega arith in
       rw e
       (record {
-        info = kept-opens τ told a o small (g .N) all .info;
+        info = kept-opens τ a o small (g .N) all .info;
         distance = refl;
-        figures = ap figuresOf (kept-info τ told a o small (g .N) all);
-        inv = opened-inv g a (opens-consistent τ told a o small);
+        figures = ap figuresOf (kept-info τ a o small (g .N) all);
+        inv = opened-inv g a (opens-consistent τ a o small);
       })

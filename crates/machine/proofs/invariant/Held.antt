@@ -18,7 +18,7 @@ use Rattle.layout.specs.Place.{layoutOf, at}
 use Rattle.layout.specs.declared.Figures.{Figures}
 use Rattle.layout.proofs.Allowed.{allowed-of, size-words}
 use Rattle.machine.specs.declared.lane.Lane.{Lane}
-use Rattle.machine.specs.state.Handle.{Handle, laneAt, handleAllowed, withLane, laidOut, ToldOk}
+use Rattle.machine.specs.state.Handle.{Handle, laneAt, handleAllowed, withLane, laidOut}
 use Rattle.machine.specs.state.Lane.{laneAllowed, startedLane, writeStores, isBusy}
 use Rattle.machine.specs.state.Stores.{Store, stored}
 use Rattle.machine.specs.state.Flog.{mapWord, mapBlock}
@@ -86,10 +86,10 @@ module _ (τ : Told) where
   abbrev HeldAfter : Outcome → Type 0
   HeldAfter o = Held (o .arena) (o .handle)
 
-module _ (τ : Told) (told : ToldOk τ) where
+module _ (τ : Told) where
   -- an accepted opening gives one
   pub held-open : (a work : List ℕ) → Small a → (openOf τ a work) .number ≡ 0 → Held τ ((openOf τ a work) .arena) ((openOf τ a work) .handle)
-  held-open a work small e = record { size = same e; good = good-open τ told a work small e }
+  held-open a work small e = record { size = same e; good = good-open τ a work small e }
     where
       same : (openOf τ a work) .number ≡ 0 → (openOf τ a work) .handle .length ≡ length ((openOf τ a work) .arena)
       same d = unfold openOf handleFor in (rw d (sym (putAll-length (layoutIn τ a) (mends (layoutIn τ a) a ((layoutIn τ a) .N)) a)))
@@ -99,7 +99,7 @@ module _ (τ : Told) (told : ToldOk τ) where
   module _ (a : List ℕ) (h : Handle) (k : Held τ a h) where
     pub held-allowed : handleAllowed h (length a) ≡ true
     held-allowed =
-        sym (handle-last h (length a) (k .good .info .size) (k .size) (rw (k .good .distance) at told) (good-figures τ told a (h .distance) (h .figures) (h .lanes) (k .good)))
+        sym (handle-last h (length a) (k .good .info .size) (k .size) (rw (k .good .distance) at (k .good .info .layout)) (good-figures τ a (h .distance) (h .figures) (h .lanes) (k .good)))
         ∙ every-intro (h .figures .lanes) (λ l. laneAllowed (laidOut h) (laneAt (h .lanes) l))
         (λ l u. lane-allowed (laidOut h) a l (laneAt (h .lanes) l) (k .good .inv .lane l (lanes-in (h .distance) (h .figures) l u)))
 
@@ -115,7 +115,7 @@ module _ (τ : Told) (told : ToldOk τ) where
     pub held-whole : h .figures .size ≡ 4 * (laidOut h) .W
     unfolding layoutOf
     held-whole =
-        let z = size-words (h .figures) (length a) (allowed-of (h .figures) (length a) (good-figures τ told a (h .distance) (h .figures) (h .lanes) (k .good))) in
+        let z = size-words (h .figures) (length a) (allowed-of (h .figures) (length a) (good-figures τ a (h .distance) (h .figures) (h .lanes) (k .good))) in
         omega (arith, z .0)
 
   -- ---- the calls
@@ -156,7 +156,7 @@ module _ (τ : Told) (told : ToldOk τ) where
           let i = k .good .inv in
           record {
             size = k .size ∙ sym (length-putWord a (at g (st .place)) (st .value));
-            good = good-stored τ told a (h .distance) (h .figures) (h .lanes) (k .good) st (store-range g _ (plan-ok g a (h .lanes) l i u) buffer _ (i .lane l u .made-in)) _
+            good = good-stored τ a (h .distance) (h .figures) (h .lanes) (k .good) st (store-range g _ (plan-ok g a (h .lanes) l i u) buffer _ (i .lane l u .made-in)) _
                 (step-inv g a (h .lanes) l i u (d .busy) buffer small);
           }
       go false f = k

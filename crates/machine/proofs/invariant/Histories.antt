@@ -36,7 +36,6 @@ use Rattle.machine.proofs.stores.Stores.{putAll-length}
 use Rattle.machine.proofs.opening.Opens.{opened-distance, opened-figures}
 use Rattle.machine.proofs.invariant.Held.{Held, held-open, good-start, good-step, good-write}
 use Rattle.layout.specs.declared.Told.{Told}
-use Rattle.machine.specs.state.Handle.{ToldOk}
 
 -- the same length, and the same distance and figures of the handle
 pub record Alike (x y : State) : Type 0 where
@@ -84,7 +83,7 @@ module _ (τ : Told) where
   abbrev pub HeldIn : State → Type 0
   HeldIn x = Held τ (x .arena) (x .handle)
 
-module _ (τ : Told) (told : ToldOk τ) where
+module _ (τ : Told) where
   pub held-small : (x : State) → HeldIn τ x → Small (x .arena)
   held-small x k = k .good .inv .arena .bytes .small
 
@@ -96,9 +95,9 @@ module _ (τ : Told) (told : ToldOk τ) where
 
   pub held-after : (x : State) (c : Call) → SmallCall c → HeldIn τ x → HeldIn τ (after x c)
   held-after x (read s buffer) small k = k
-  held-after x (start l s) small k = good-start τ told (x .arena) (x .handle) l s k
-  held-after x (step l buffer) small k = good-step τ told (x .arena) (x .handle) l buffer small k
-  held-after x (write l s buffer) small k = good-write τ told (x .arena) (x .handle) l s buffer small k
+  held-after x (start l s) small k = good-start τ (x .arena) (x .handle) l s k
+  held-after x (step l buffer) small k = good-step τ (x .arena) (x .handle) l buffer small k
+  held-after x (write l s buffer) small k = good-write τ (x .arena) (x .handle) l s buffer small k
 
   -- ---- openings
 
@@ -117,15 +116,15 @@ module _ (τ : Told) (told : ToldOk τ) where
       let g = layoutIn τ (x .arena) in
       record {
         size = rw e (putAll-length g (mends g (x .arena) (g .N)) (x .arena));
-        distance = opened-distance τ told (x .arena) work e ∙ k .good .distance;
-        figures = opened-figures τ told (x .arena) work e ∙ held-figures x k;
+        distance = opened-distance τ (x .arena) work e ∙ k .good .distance;
+        figures = opened-figures τ (x .arena) work e ∙ held-figures x k;
       }
 
   -- ---- calls with openings between
 
   pub held-event : (x : State) (e : Event) → SmallEvent e → HeldIn τ x → HeldIn τ (afterEvent τ x e)
   held-event x (called c) small k = held-after x c small k
-  held-event x (opened work) small k = opening-cases x work (HeldIn τ) (held-open τ told (x .arena) work (held-small x k)) k
+  held-event x (opened work) small k = opening-cases x work (HeldIn τ) (held-open τ (x .arena) work (held-small x k)) k
 
   pub alike-event : (x : State) (e : Event) → HeldIn τ x → Alike x (afterEvent τ x e)
   alike-event x (called c) k = alike-after x c

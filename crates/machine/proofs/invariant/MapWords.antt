@@ -10,7 +10,7 @@ use Rattle.layout.specs.Place.{Layout, layoutOf}
 use Rattle.layout.specs.declared.Figures.{Figures}
 use Rattle.layout.specs.declared.Told.{Told}
 use Rattle.machine.specs.declared.lane.Lane.{Lane}
-use Rattle.machine.specs.state.Handle.{laneAt, ToldOk}
+use Rattle.machine.specs.state.Handle.{laneAt}
 use Rattle.machine.specs.state.Stores.{stored}
 use Rattle.machine.specs.state.Flog.{mapBlock}
 use Rattle.machine.proofs.stores.Once.{once-same}
@@ -42,8 +42,8 @@ module _ (g : Layout) (a : List ℕ) (lanes : List Lane) (i : Inv g a lanes) (s 
     tidy = tidy-word g (i .ok) a (i .arena) s w u small clean (i .tidy);
   }
 
-pub word-good : (τ : Told) → ToldOk τ → (a : List ℕ) (d : ℕ) (f : Figures) (lanes : List Lane) → Good τ a d f lanes
+pub word-good : (τ : Told) (a : List ℕ) (d : ℕ) (f : Figures) (lanes : List Lane) → Good τ a d f lanes
     → (s w : ℕ) → s < (layoutOf d f) .E → w < 4294967296 → blockOf s w ≡ mapBlock (layoutOf d f) a s → sloppyWord w ≡ false
     → Good τ (stored (layoutOf d f) (wordStore s w) a) d f lanes
-word-good τ told a d f lanes k s w u small same clean =
-    good-stored τ told a d f lanes k (wordStore s w) u lanes (word-inv (layoutOf d f) a lanes (k .inv) s w u small same clean)
+word-good τ a d f lanes k s w u small same clean =
+    good-stored τ a d f lanes k (wordStore s w) u lanes (word-inv (layoutOf d f) a lanes (k .inv) s w u small same clean)

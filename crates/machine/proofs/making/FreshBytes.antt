@@ -3,14 +3,14 @@ use mathlib.Core.Path.{_≡_, sym, ap, _∙_}
 use mathlib.Core.List.{List}
 use Prim.Native.Nat.{ℕ, zero, suc, _+_, _-_, _*_, _/_, _%_, _≤_, _<_}
 use native.Mathlib.Omega.{arith}
-use lib.ListN.{getD, getD-replicate}
+use lib.ListN.{getD}
 use Rattle.words.specs.Word.{word}
 use Rattle.words.specs.Bytes.{byteWord}
 use Rattle.words.proofs.Bytes.{word-bytes-at, word-at}
 use Rattle.layout.specs.Place.{Layout}
 use Rattle.machine.specs.calls.Making.{freshLane, dataEnd}
 use Rattle.machine.specs.claims.Making.{FreshLane}
-use Rattle.machine.proofs.making.FreshWords.{made, Room, word-before, word-lane, word-after}
+use Rattle.machine.proofs.making.FreshWords.{rest-zero, made, Room, word-before, word-lane, word-after}
 
 -- a zero word is four zero bytes
 zero-bytes : (a : List ℕ) (i r : ℕ) → r < 4 → word a i ≡ 0 → getD a (4 * i + r) 0 ≡ 0
@@ -25,14 +25,6 @@ zero-byte : (a : List ℕ) (j : ℕ) → word a (j / 4) ≡ 0 → getD a j 0 ≡
 zero-byte a j e =
     let p : j ≡ 4 * (j / 4) + j % 4 = omega arith in
     ap (λ (k : ℕ). getD a k 0) p ∙ zero-bytes a (j / 4) (j % 4) (omega arith) e
-
--- the last twelve words of a fresh lane
-rest-zero : (e l k : ℕ) → 4 ≤ k → k < 16 → getD (freshLane e l) k 0 ≡ 0
-rest-zero e l zero u v = absurd (omega arith)
-rest-zero e l (suc zero) u v = absurd (omega arith)
-rest-zero e l (suc (suc zero)) u v = absurd (omega arith)
-rest-zero e l (suc (suc (suc zero))) u v = absurd (omega arith)
-rest-zero e l (suc (suc (suc (suc k)))) u v = getD-replicate 12 k 0 0 (omega arith)
 
 module _ (g : Layout) (a info : List ℕ) (r : Room g a info) where
   pub before-flog : (j : ℕ) → 4 * dataEnd g ≤ j → j < 4 * g .flog₀ → getD (made g a info) j 0 ≡ 0

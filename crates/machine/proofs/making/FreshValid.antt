@@ -1,6 +1,7 @@
 -- A made arena is valid and so opens: the block that counts is its first one, whose figures are the given ones, and its map and flog
 -- are fresh.
 use mathlib.Core.Path.{_≡_, refl, sym, ap, _∙_, subst}
+use mathlib.Core.Logic.{inl}
 use mathlib.Core.Bool.{Bool, true, false, cond}
 use mathlib.Core.List.{List}
 use Prim.Native.Nat.{ℕ, _+_, _-_, _*_, _≤_, _<_}
@@ -11,17 +12,18 @@ use Rattle.words.specs.Word.{word}
 use Rattle.words.specs.Bytes.{byteWord}
 use Rattle.layout.specs.Figures.{lengthAllowed, Allowed}
 use Rattle.layout.specs.Place.{Layout, layoutOf}
+use Rattle.layout.specs.Claims.{Distance}
 use Rattle.infoblock.specs.Info.{sound, infoBlockOf, figuresOf, infoWords}
 use Rattle.infoblock.specs.Claims.{Identifier, FreshBlock}
 use Rattle.layout.specs.declared.Figures.{Figures}
 use Rattle.format.proofs.Below.{Below, below-take}
-use Rattle.layout.proofs.Allowed.{starts-exact, layout-ok, layout-exact, alone-ok, allowed-fits}
+use Rattle.layout.proofs.Allowed.{starts-exact, of-distance, distance-ok, layout-ok, layout-exact, allowed-fits}
 use Rattle.infoblock.proofs.InBytes.{sound-claim, figures-are}
 use Rattle.infoblock.proofs.FreshBlock.{info-length, info-below, made-block}
 use Rattle.infoblock.proofs.InfoBlock.{length-of, info-in, counting-main}
 use Rattle.machine.specs.state.Lane.{idleLane}
 use Rattle.machine.specs.state.Handle.{laneAt}
-use Rattle.machine.specs.calls.Making.{dataEnd}
+use Rattle.machine.specs.calls.Making.{dataEnd, tailWords}
 use Rattle.machine.specs.calls.Opening.{figuresIn, layoutIn, openNumber, openOf}
 use Rattle.infoblock.specs.Claims.{Sound}
 use Rattle.machine.specs.words.InBytes.{laneByte}
@@ -34,15 +36,10 @@ use Rattle.machine.proofs.making.FreshMap.{Fresh, lane-fresh, pending-n
 use Rattle.machine.proofs.making.FreshWords.{made, Room, made-length, made-fresh, made-kept, made-bytes, main-length, main-word, made-copy}
 use Rattle.machine.proofs.making.FreshBytes.{fresh-lane}
 use Rattle.layout.specs.Told.{alone}
-use Rattle.machine.proofs.opening.Described.{told-alone}
 
 -- the arena made of two identifiers and figures
 abbrev pub madeOf : List ℕ → List ℕ → Figures → List ℕ → List ℕ
 madeOf first second f a = made (layoutOf 16 f) a (infoWords first second f)
-
-half : (f : Figures) → (layoutOf 16 f) .D ≡ 4
-unfolding layoutOf
-half f = refl
 
 same : {A : Type 0} (t : Bool) (x : A) → cond t x x ≡ x
 same true x = refl
@@ -60,16 +57,18 @@ module _ (first second : List ℕ) (f : Figures) (a : List ℕ) (d : Given first
   abbrev m : List ℕ
   m = madeOf first second f a
 
-  pub room : Room (layoutOf 16 f) a (infoWords first second f)
-  room =
+  rooms : (t : ℕ) → Distance t → Room (layoutOf t f) a (infoWords first second f)
+  rooms t w =
       let most : length a ≤ 16777216 = length-of (length a) (d .size) .2 in
       record {
-        ok = layout-ok 16 alone-ok f (length a) (d .ok) most;
-        half = half f;
-        exact = layout-exact 16 f (length a) (d .ok);
+        ok = layout-ok t (distance-ok t (of-distance t w)) f (length a) (d .ok) most;
+        exact = layout-exact t f (length a) (d .ok);
         block = info-length first second f;
         below = info-below first second f (d .first-ok .bytes) (d .second-ok .bytes) (allowed-fits f (length a) (d .ok) most);
       }
+
+  pub room : Room (layoutOf 16 f) a (infoWords first second f)
+  room = rooms 16 (inl refl)
 
   pub same-length : length m ≡ length a
   same-length = made-length (layoutOf 16 f) a (infoWords first second f) room
@@ -119,14 +118,6 @@ module _ (first second : List ℕ) (f : Figures) (a : List ℕ) (d : Given first
   unfolding main
   figures-in = ap figuresOf block ∙ figures-are main f (main-block .figures)
 
-  pub layout-in : layoutIn alone m ≡ layoutOf 16 f
-  layout-in = ap (layoutOf 16) figures-in
-
-  pub fresh : Fresh (layoutIn alone m) m
-  fresh =
-      subst (λ (g : Layout). Fresh g m) (sym layout-in)
-      (made-fresh (layoutOf 16 f) a (infoWords first second f) room)
-
   info-ok : InfoOk 0 main (length a)
   unfolding main
   info-ok =
@@ -135,43 +126,61 @@ module _ (first second : List ℕ) (f : Figures) (a : List ℕ) (d : Given first
         figures = subst (λ (x : Figures). Allowed x (length a)) (sym (figures-are main f (main-block .figures))) (d .ok);
       }
 
-  -- every map word and all of each lane but its first half is zero
-  clean : Clean 16 f m
-  unfolding layoutOf
-  clean = record {
-    words = λ s u w. omega (arith, w .1, sym (map-word 16 f (length a) (d .ok) m s), made-fresh (layoutOf 16 f) a (infoWords first second f) room .map s u);
-    padding = λ l j u v p. fresh-lane (layoutOf 16 f) a (infoWords first second f) room l u .rest (laneByte f l j)
-        (omega (arith, starts-exact f (length a) (d .ok) .2, p .0)) (omega (arith, starts-exact f (length a) (d .ok) .2));
-  }
+  -- ---- in either layout
 
-  pub valid : Valid alone m
-  unfolding main
-  valid = record {
-    size = length-ok _ allowed;
-    info = subst Sound (sym block) (main-block .checksum);
-    figures = rw (block, same-length) info-ok;
-    flags = ap (λ (b : List ℕ). byteWord b 48) block ∙ main-block .flags;
-    lanes = readable (layoutIn alone m) m fresh;
-    words = no-bad-word (layoutIn alone m) m fresh;
-    clean = rw figures-in clean;
-    settled = settled (layoutIn alone m) m fresh;
-  }
+  module _ (t : ℕ) (w : Distance t) where
+    pub layout-in : layoutIn (alone t) m ≡ layoutOf t f
+    layout-in = ap (layoutOf t) figures-in
 
-  pub opens : (room : ℕ) → (layoutIn alone m) .I ≤ room → openNumber alone m room ≡ 0
-  opens room h = zero-open alone told-alone m room (valid-opens alone told-alone m small-in valid) h
+    -- making leaves the same bytes whatever the layout
+    made-same : made (layoutOf t f) a (infoWords first second f) ≡ m
+    unfolding layoutOf tailWords
+    made-same = refl
 
-  -- none mended and no byte changed, whether or not there is room
-  pub opened-mended : (work : List ℕ) → (openOf alone m work) .mended ≡ 0
-  unfolding openOf
-  opened-mended work =
-      rw (pending-none (layoutIn alone m) m fresh) (same (eqb (openNumber alone m (length work)) 0) 0)
+    fresh-in : Fresh (layoutOf t f) m
+    fresh-in = subst (Fresh (layoutOf t f)) made-same (made-fresh (layoutOf t f) a (infoWords first second f) (rooms t w))
 
-  pub opened-arena : (work : List ℕ) → (openOf alone m work) .arena ≡ m
-  unfolding openOf
-  opened-arena work =
-      rw (mended-same (layoutIn alone m) m fresh) (same (eqb (openNumber alone m (length work)) 0) m)
+    pub fresh : Fresh (layoutIn (alone t) m) m
+    fresh = subst (λ (g : Layout). Fresh g m) (sym layout-in) fresh-in
 
-  pub opened-fresh : (work : List ℕ) (l : ℕ) → (layoutIn alone m) .I ≤ length work → l < (layoutIn alone m) .N
-      → laneAt ((openOf alone m work) .handle .lanes) l ≡ idleLane ((layoutIn alone m) .E + l) 1 2
-  opened-fresh work l h u =
-      opened-lane alone told-alone m work (unfold openOf in (opens (length work) h)) l u ∙ lane-fresh (layoutIn alone m) m fresh l u
+    -- every map word and all of each lane but its first half is zero
+    clean : Clean t f m
+    unfolding layoutOf
+    clean = record {
+      words = λ s u w. omega (arith, w .1, sym (map-word t f (length a) (d .ok) m s), fresh-in .map s u);
+      padding = λ l j u v p. fresh-lane (layoutOf 16 f) a (infoWords first second f) room l u .rest (laneByte f l j)
+          (omega (arith, starts-exact f (length a) (d .ok) .2, p .0)) (omega (arith, starts-exact f (length a) (d .ok) .2));
+    }
+
+    pub valid : Valid (alone t) m
+    unfolding main
+    valid = record {
+      layout = w;
+      size = length-ok _ allowed;
+      info = subst Sound (sym block) (main-block .checksum);
+      figures = rw (block, same-length) info-ok;
+      flags = ap (λ (b : List ℕ). byteWord b 48) block ∙ main-block .flags;
+      lanes = readable (layoutIn (alone t) m) m fresh;
+      words = no-bad-word (layoutIn (alone t) m) m fresh;
+      clean = rw figures-in clean;
+      settled = settled (layoutIn (alone t) m) m fresh;
+    }
+
+    pub opens : (room : ℕ) → (layoutIn (alone t) m) .I ≤ room → openNumber (alone t) m room ≡ 0
+    opens room h = zero-open (alone t) m room (valid-opens (alone t) m small-in valid) h
+
+    -- none mended and no byte changed, whether or not there is room
+    pub opened-mended : (work : List ℕ) → (openOf (alone t) m work) .mended ≡ 0
+    unfolding openOf
+    opened-mended work =
+        rw (pending-none (layoutIn (alone t) m) m fresh) (same (eqb (openNumber (alone t) m (length work)) 0) 0)
+
+    pub opened-arena : (work : List ℕ) → (openOf (alone t) m work) .arena ≡ m
+    unfolding openOf
+    opened-arena work =
+        rw (mended-same (layoutIn (alone t) m) m fresh) (same (eqb (openNumber (alone t) m (length work)) 0) m)
+
+    pub opened-fresh : (work : List ℕ) (l : ℕ) → (layoutIn (alone t) m) .I ≤ length work → l < (layoutIn (alone t) m) .N
+        → laneAt ((openOf (alone t) m work) .handle .lanes) l ≡ idleLane ((layoutIn (alone t) m) .E + l) 1 2
+    opened-fresh work l h u =
+        opened-lane (alone t) m work (unfold openOf in (opens (length work) h)) l u ∙ lane-fresh (layoutIn (alone t) m) m fresh l u

@@ -37,6 +37,14 @@ flog-at e i (suc n) (suc l) j u v =
     (getD-past (freshLane e i) (freshFlog e (suc i) n) 16 (16 * l + j) refl ∙ flog-at e (suc i) n l j (omega arith) v
     ∙ ap (λ (k : ℕ). getD (freshLane e k) j 0) q)
 
+-- the last twelve words of a fresh lane
+pub rest-zero : (e l k : ℕ) → 4 ≤ k → k < 16 → getD (freshLane e l) k 0 ≡ 0
+rest-zero e l zero u v = absurd (omega arith)
+rest-zero e l (suc zero) u v = absurd (omega arith)
+rest-zero e l (suc (suc zero)) u v = absurd (omega arith)
+rest-zero e l (suc (suc (suc zero))) u v = absurd (omega arith)
+rest-zero e l (suc (suc (suc (suc k)))) u v = getD-replicate 12 k 0 0 (omega arith)
+
 lane-below : (e i : ℕ) → e + i < 1073741824 → Below 4294967296 (freshLane e i)
 lane-below e i h zero = omega arith
 lane-below e i h (suc zero) = omega arith
@@ -57,7 +65,6 @@ made g a info = putWords (putWords a 0 info) (dataEnd g) (tailWords g info)
 -- what making asks of a layout, an arena and an info block
 pub record Room (g : Layout) (a info : List ℕ) : Type 0 where
   pub ok : LayoutOk g
-  pub half : g .D ≡ 4
   pub exact : length a ≡ 4 * g .copy₀ + 4096
   pub block : length info ≡ 1024
   pub below : Below 4294967296 info
@@ -164,7 +171,7 @@ module _ (g : Layout) (a info : List ℕ) (r : Room g a info) where
         old = λ l u. first l 1 u (omega arith);
         new = λ l u. first l 2 u (omega arith);
         first = λ l u. first l 3 u (omega arith);
-        second = λ l u. flog-word l 1 3 u (omega arith) ∙ (let e : 1 * g .D + 3 ≡ 7 = omega arith in rw e);
+        second = λ l u. flog-word l 1 3 u (omega arith) ∙ rest-zero (g .E) l (1 * g .D + 3) (omega arith) (omega arith);
       }
     where
       first : (l k : ℕ) → l < g .N → k < 16 → flogWord g (made g a info) l 0 k ≡ getD (freshLane (g .E) l) k 0

@@ -1,6 +1,6 @@
 -- The claim about making: its row by its tests, and of an accepted order the made arena, whose info block, map and flog are fresh.
 use mathlib.Core.Path.{_≡_, refl, sym, ap, _∙_, subst}
-use mathlib.Core.Logic.{_≢_}
+use mathlib.Core.Logic.{_≢_, inl}
 use mathlib.Core.Bool.{true}
 use mathlib.Core.List.{List}
 use Prim.Native.Nat.{ℕ, _+_, _-_, _*_, _<_}
@@ -35,9 +35,9 @@ use Rattle.machine.specs.calls.Making.{
   dataEnd,
 }
 use Rattle.machine.specs.calls.Opening.{layoutIn, openOf, mended}
-use Rattle.layout.specs.Claims.{Sizes}
+use Rattle.layout.specs.Claims.{Sizes, Distance}
 use Rattle.machine.specs.words.Valid.{HoldsMake, AnswersMake}
-use Rattle.machine.specs.claims.Making.{WantedOk, FreshLane, FreshBytes, FreshArena, smallest, MakingClaim}
+use Rattle.machine.specs.claims.Making.{WantedOk, FreshLane, FreshBytes, FreshOpens, FreshArena, smallest, MakingClaim}
 use Rattle.machine.proofs.rules.Rules.{passed-all, first-in, unguarded, asked}
 use Rattle.machine.proofs.calls.Records.{idle-is}
 use Rattle.machine.proofs.opening.Reflect.{length-ok, ok-length}
@@ -169,28 +169,10 @@ module _ (o : Wanted) (a : List ℕ) (small : Small a) (first : Small (o .first)
   pub made-small : Small ((makeOf o a) .arena)
   made-small = rw arena (small-in (o .first) (o .second) figures a given)
 
-  made-layout : layoutIn alone m ≡ layoutOf 16 figures
-  made-layout = layout-in (o .first) (o .second) figures a given
-
-  sectors-in : (layoutIn alone m) .E ≡ o .sectors
-  unfolding figures layoutOf freshFigures
-  sectors-in = ap (λ (g : Layout). g .E) made-layout
-
-  lanes-in : (layoutIn alone m) .N ≡ o .lanes
-  unfolding figures layoutOf freshFigures
-  lanes-in = ap (λ (g : Layout). g .N) made-layout
-
-  blocks-in : (layoutIn alone m) .I ≡ o .sectors + o .lanes
-  unfolding figures layoutOf freshFigures
-  blocks-in = ap (λ (g : Layout). g .I) made-layout
-
   -- where the data blocks end, in bytes
   data-end : 4 * dataEnd (layoutOf 16 figures) ≡ 4096 + (o .sectors + o .lanes) * o .size
   unfolding figures layoutOf freshFigures
   data-end = omega (arith, quarter (o .sectors + o .lanes) (figures .internal) (internal-words figures (length a) ok .1))
-
-  map-zero : (s : ℕ) → s < o .sectors → mapWord (layoutIn alone m) m s ≡ 0
-  map-zero s u = fresh (o .first) (o .second) figures a given .map s (omega (arith, sectors-in))
 
   -- where flog and copy start, in bytes
   flog-start : 4 * (layoutOf 16 figures) .flog₀ ≡ figures .flogoff
@@ -234,24 +216,51 @@ module _ (o : Wanted) (a : List ℕ) (small : Small a) (first : Small (o .first)
             after-flog (layoutOf 16 figures) a i r j (omega (arith, flog-start, lanes-is)) (omega (arith, copy-start));
       }
 
-  pub map-words : (s : ℕ) → s < o .sectors → mapWord (layoutIn alone ((makeOf o a) .arena)) ((makeOf o a) .arena) s ≡ 0
-  map-words s u = rw arena (map-zero s u)
+  -- ---- in either layout
+
+  module _ (d : ℕ) (w : Distance d) where
+    made-layout : layoutIn (alone d) m ≡ layoutOf d figures
+    made-layout = layout-in (o .first) (o .second) figures a given d w
+
+    sectors-in : (layoutIn (alone d) m) .E ≡ o .sectors
+    unfolding figures layoutOf freshFigures
+    sectors-in = ap (λ (g : Layout). g .E) made-layout
+
+    lanes-in : (layoutIn (alone d) m) .N ≡ o .lanes
+    unfolding figures layoutOf freshFigures
+    lanes-in = ap (λ (g : Layout). g .N) made-layout
+
+    blocks-in : (layoutIn (alone d) m) .I ≡ o .sectors + o .lanes
+    unfolding figures layoutOf freshFigures
+    blocks-in = ap (λ (g : Layout). g .I) made-layout
+
+    map-zero : (s : ℕ) → s < o .sectors → mapWord (layoutIn (alone d) m) m s ≡ 0
+    map-zero s u = fresh (o .first) (o .second) figures a given d w .map s (omega (arith, sectors-in))
+
+    pub map-words : (s : ℕ) → s < o .sectors → mapWord (layoutIn (alone d) ((makeOf o a) .arena)) ((makeOf o a) .arena) s ≡ 0
+    map-words s u = rw arena (map-zero s u)
+
+    fresh-opens : FreshOpens d o ((makeOf o a) .arena)
+    unfolding openOf figures
+    fresh-opens = record {
+      valid = rw arena (valid (o .first) (o .second) figures a given d w);
+      number = λ work h. rw arena (opens (o .first) (o .second) figures a given d w (length work) (omega (arith, blocks-in)));
+      mended = λ work. rw arena (opened-mended (o .first) (o .second) figures a given d w work);
+      arena = λ work. rw arena (opened-arena (o .first) (o .second) figures a given d w work);
+      lanes = λ work l h u. idle-is _ _ _ _ (rw arena
+          (opened-fresh (o .first) (o .second) figures a given d w work l (omega (arith, blocks-in)) (omega (arith, lanes-in))
+          ∙ ap (λ (n : ℕ). idleLane (n + l) 1 2) sectors-in));
+    }
 
   map-made : (s : ℕ) → s < o .sectors → mapWord (layoutOf 16 figures) m s ≡ 0
-  map-made s u = subst (λ (g : Layout). mapWord g m s ≡ 0) made-layout (map-zero s u)
+  map-made s u = subst (λ (g : Layout). mapWord g m s ≡ 0) (made-layout 16 (inl refl)) (map-zero 16 (inl refl) s u)
 
   made-arena : FreshArena o a
-  unfolding openOf figures
+  unfolding figures
   made-arena = record {
     bytes = rw arena made-bytes;
-    valid = rw arena (valid (o .first) (o .second) figures a given);
     figures = rw arena (figures-in (o .first) (o .second) figures a given);
-    number = λ work h. rw arena (opens (o .first) (o .second) figures a given (length work) (omega (arith, blocks-in)));
-    mended = λ work. rw arena (opened-mended (o .first) (o .second) figures a given work);
-    arena = λ work. rw arena (opened-arena (o .first) (o .second) figures a given work);
-    lanes = λ work l h u. idle-is _ _ _ _ (rw arena
-        (opened-fresh (o .first) (o .second) figures a given work l (omega (arith, blocks-in)) (omega (arith, lanes-in))
-        ∙ ap (λ (n : ℕ). idleLane (n + l) 1 2) sectors-in));
+    opens = fresh-opens;
     map = λ s u. rw arena (sym (map-word 16 figures (length a) ok m s) ∙ map-made s u);
   }
 

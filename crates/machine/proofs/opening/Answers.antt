@@ -16,6 +16,7 @@ use Rattle.format.proofs.Tests.{true-false, by-bool, every-intro, every-false, 
 use Rattle.machine.specs.state.Flog.{mapWord, mapBlock}
 use Rattle.machine.specs.calls.Opening.{
   OpenRule,
+  wrongLayout,
   wrongLength,
   noInfoBlock,
   forbiddenFigure,
@@ -44,7 +45,7 @@ use Rattle.machine.proofs.rules.Rules.{Guarded, first-in, asked}
 use Rattle.machine.proofs.opening.Mends.{readable-of, word-in}
 use Rattle.machine.proofs.invariant.Tidy.{tidy-of}
 use Rattle.machine.proofs.opening.Clean.{tidy-clean, sloppy-found, found-sloppy, clean-passes}
-use Rattle.machine.proofs.opening.Described.{Described, told-distance, described-figures, described-layout, described-arena}
+use Rattle.machine.proofs.opening.Described.{Described, described-distance, described-figures, described-layout, described-arena}
 use Rattle.machine.proofs.opening.Settled.{settled-of, of-settled}
 use Rattle.machine.proofs.opening.Opens.{Opens, open-zero, zero-open, lanes-pass, words-pass}
 use Rattle.machine.proofs.opening.Reflect.{
@@ -62,22 +63,19 @@ use Rattle.machine.proofs.opening.Reflect.{
   some-sound,
   counts-sound,
 }
-use Rattle.layout.specs.Told.{DistanceOk}
+use Rattle.layout.specs.Told.{distanceAllowed}
+use Rattle.layout.proofs.Allowed.{distance-of, of-distance}
 use Rattle.layout.specs.declared.Told.{Told}
-use Rattle.machine.specs.state.Handle.{ToldOk}
 
-module _ (τ : Told) (told : ToldOk τ) where
+module _ (τ : Told) where
   module _ (a : List ℕ) (small : Small a) where
-    dist : DistanceOk (τ .distance)
-    dist = told-distance (τ .distance) told
-
     lanes-in : lanesLost (layoutIn τ a) a ≡ false → (l : ℕ) → l < (layoutIn τ a) .N → laneReadable (layoutIn τ a) a l ≡ true
     lanes-in = lanes-pass (layoutIn τ a) a
 
     words-in : Described τ a → wordBad (layoutIn τ a) a ≡ false → sloppy (layoutIn τ a) a ≡ false → (s : ℕ) → s < (layoutIn τ a) .E
         → mapBlock (layoutIn τ a) a s < (layoutIn τ a) .I
     words-in d e f s u =
-        word-in (layoutIn τ a) (described-layout τ told a d) a s u (words-pass (layoutIn τ a) a e s u) (tidy-of (layoutIn τ a) a f .words s u)
+        word-in (layoutIn τ a) (described-layout τ a d) a s u (words-pass (layoutIn τ a) a e s u) (tidy-of (layoutIn τ a) a f .words s u)
 
     lane-lost : lanesLost (layoutIn τ a) a ≡ true → (l : ℕ) × (l < (layoutIn τ a) .N) × (Readable (layoutIn τ a) a l → ⊥)
     lane-lost e =
@@ -89,14 +87,15 @@ module _ (τ : Told) (told : ToldOk τ) where
 
     settled-yes : Described τ a → lanesLost (layoutIn τ a) a ≡ false → wordBad (layoutIn τ a) a ≡ false → sloppy (layoutIn τ a) a ≡ false
         → unsettled (layoutIn τ a) a ≡ false → Settled (layoutIn τ a) a
-    settled-yes d e f t = settled-of (layoutIn τ a) (described-layout τ told a d) a (described-arena τ told a d small) (lanes-in e) (words-in d f t)
+    settled-yes d e f t = settled-of (layoutIn τ a) (described-layout τ a d) a (described-arena τ a d small) (lanes-in e) (words-in d f t)
 
     unsettled-no : Described τ a → lanesLost (layoutIn τ a) a ≡ false → wordBad (layoutIn τ a) a ≡ false → sloppy (layoutIn τ a) a ≡ false
         → Settled (layoutIn τ a) a → unsettled (layoutIn τ a) a ≡ false
-    unsettled-no d e f t = of-settled (layoutIn τ a) (described-layout τ told a d) a (described-arena τ told a d small) (lanes-in e) (words-in d f t)
+    unsettled-no d e f t = of-settled (layoutIn τ a) (described-layout τ a d) a (described-arena τ a d small) (lanes-in e) (words-in d f t)
 
     -- what each rule needs of those before it
     needs : OpenRule → Type 0
+    needs wrongLayout = Unit {0}
     needs wrongLength = Unit {0}
     needs noInfoBlock = lengthAllowed (length a) ≡ true
     needs forbiddenFigure = Unit {0}
@@ -109,6 +108,7 @@ module _ (τ : Told) (told : ToldOk τ) where
 
     tells : (room : ℕ) (r : OpenRule) → needs r → (testsOpen τ a room r ≡ true → HoldsOpen τ a room r) × (HoldsOpen τ a room r → testsOpen τ a room r ≡ true)
     unfolding needs
+    tells room wrongLayout u = asked (distance-of (τ .distance)) (of-distance (τ .distance))
     tells room wrongLength u = asked (length-ok (length a)) (ok-length (length a))
     tells room noInfoBlock u = (none-sound a small u, λ f. some-sound a small u (f .0) (f .1))
     tells room forbiddenFigure u = asked (info-ok τ (infoBlockOf a) (length a) (block-small a small)) (ok-info τ (infoBlockOf a) (length a) (block-small a small))
@@ -125,8 +125,8 @@ module _ (τ : Told) (told : ToldOk τ) where
           (λ t. true-false (sym (ok-bad _ _ (f .2)) ∙ words-pass (layoutIn τ a) a t (f .0) (f .1))),
     )
     tells room sloppyArena u = (
-      sloppy-found (τ .distance) dist (figuresIn a) (length a) (described-figures τ told a u) a small,
-      found-sloppy (τ .distance) dist (figuresIn a) (length a) (described-figures τ told a u) a small,
+      sloppy-found (τ .distance) (described-distance τ a u) (figuresIn a) (length a) (described-figures τ a u) a small,
+      found-sloppy (τ .distance) (described-distance τ a u) (figuresIn a) (length a) (described-figures τ a u) a small,
     )
     tells room notValid u = (
       λ e s. true-false (sym e ∙ unsettled-no (u .0) (u .1) (u .2) (u .3) s),
@@ -136,11 +136,11 @@ module _ (τ : Told) (told : ToldOk τ) where
     pub answers : (room : ℕ) → AnswersOpen τ a room (openNumber τ a room)
     unfolding openNumber needs
     answers room = first-in numberOpen needs (testsOpen τ a room) (HoldsOpen τ a room) (tells room) orderOpen
-        (tt, λ p1. (not-false _ p1, λ p2. (tt, λ p3. (tt, λ p4. (tt, λ p5. (tt, λ p6. (tt, λ p7. later (described p1 p2 p3 p4) p6 p7)))))))
+        (tt, λ p16. (tt, λ p1. (not-false _ p1, λ p2. (tt, λ p3. (tt, λ p4. (tt, λ p5. (tt, λ p6. (tt, λ p7. later (described p16 p1 p2 p3 p4) p6 p7))))))))
       where
-        described : not (lengthAllowed (length a)) ≡ false → eqb (length (infoBlockOf a)) 0 ≡ false → not (infoAllowed τ (infoBlockOf a) (length a)) ≡ false
+        described : not (distanceAllowed (τ .distance)) ≡ false → not (lengthAllowed (length a)) ≡ false → eqb (length (infoBlockOf a)) 0 ≡ false → not (infoAllowed τ (infoBlockOf a) (length a)) ≡ false
             → not (flagsAllowed (infoBlockOf a)) ≡ false → Described τ a
-        described p1 p2 p3 p4 = record { size = not-false _ p1; block = p2; allowed = not-false _ p3; flags = not-false _ p4 }
+        described p16 p1 p2 p3 p4 = record { layout = not-false _ p16; size = not-false _ p1; block = p2; allowed = not-false _ p3; flags = not-false _ p4 }
 
         later : Described τ a → lanesLost (layoutIn τ a) a ≡ false → wordBad (layoutIn τ a) a ≡ false
             → Guarded numberOpen needs (testsOpen τ a room) (sloppyArena ∷ notValid ∷ [])
@@ -150,19 +150,21 @@ module _ (τ : Told) (told : ToldOk τ) where
     opens-valid o =
         let d = o .info in
         record {
+          layout = distance-of (τ .distance) (d .layout);
           size = length-ok (length a) (d .size);
           info = counts-sound a small (d .size) (d .block);
           figures = info-ok τ (infoBlockOf a) (length a) (block-small a small) (d .allowed);
           flags = flags-ok (infoBlockOf a) (d .flags);
           lanes = λ l u. readable-of (layoutIn τ a) a l (lanes-in (o .lanes) l u);
           words = λ s u b. true-false (sym (ok-bad _ _ b) ∙ words-pass (layoutIn τ a) a (o .words) s u);
-          clean = tidy-clean (τ .distance) dist (figuresIn a) (length a) (described-figures τ told a d) a small (tidy-of (layoutIn τ a) a (o .clean));
+          clean = tidy-clean (τ .distance) (described-distance τ a d) (figuresIn a) (length a) (described-figures τ a d) a small (tidy-of (layoutIn τ a) a (o .clean));
           settled = settled-yes d (o .lanes) (o .words) (o .clean) (o .settled);
         }
 
     pub valid-opens : Valid τ a → Opens τ a
     valid-opens v =
         let d : Described τ a = record {
+          layout = of-distance (τ .distance) (v .layout);
           size = ok-length (length a) (v .size);
           block = ne-eqb (length (infoBlockOf a)) 0 (λ e. omega (arith, v .info .size));
           allowed = ok-info τ (infoBlockOf a) (length a) (block-small a small) (v .figures);
@@ -172,7 +174,7 @@ module _ (τ : Told) (told : ToldOk τ) where
         let f : lanesLost (layoutIn τ a) a ≡ false = rw all in
         let w : wordBad (layoutIn τ a) a ≡ false = some-intro ((layoutIn τ a) .E) _
         (λ s u. by-bool (badWord ((layoutIn τ a) .I) (mapWord (layoutIn τ a) a s)) _ (λ t. absurd (v .words s u (bad-ok _ _ t))) (λ t. t)) in
-        let c = clean-passes (τ .distance) dist (figuresIn a) (length a) (described-figures τ told a d) a small (v .clean) in
+        let c = clean-passes (τ .distance) (described-distance τ a d) (figuresIn a) (length a) (described-figures τ a d) a small (v .clean) in
         record {
           info = d;
           lanes = f;
@@ -185,6 +187,6 @@ module _ (τ : Told) (told : ToldOk τ) where
     unfolding openOf
     opening-answers work = record {
       answers = answers (length work);
-      accepts = λ e. let p = open-zero τ told a (length work) e in (opens-valid (p .0), p .1);
-      only = λ v h. zero-open τ told a (length work) (valid-opens v) h;
+      accepts = λ e. let p = open-zero τ a (length work) e in (opens-valid (p .0), p .1);
+      only = λ v h. zero-open τ a (length work) (valid-opens v) h;
     }

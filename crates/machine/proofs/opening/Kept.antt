@@ -18,9 +18,8 @@ use Rattle.machine.proofs.opening.Consistent.{consistent-kept, mended-k
 use Rattle.machine.proofs.opening.Described.{described-same, info-kept}
 use Rattle.machine.proofs.opening.Opens.{Opens, open-number, opens-consistent, consistent-opens}
 use Rattle.layout.specs.declared.Told.{Told}
-use Rattle.machine.specs.state.Handle.{ToldOk}
 
-module _ (τ : Told) (told : ToldOk τ) where
+module _ (τ : Told) where
   module _ (a : List ℕ) (o : Opens τ a) (small : Small a) (n : ℕ) (few : n ≤ (layoutIn τ a) .N) where
     abbrev g : Layout
     g = layoutIn τ a
@@ -29,20 +28,20 @@ module _ (τ : Told) (told : ToldOk τ) where
     A = putAll (layoutIn τ a) (mends (layoutIn τ a) a n) a
 
     judged : Consistent (layoutIn τ a) a
-    judged = opens-consistent τ told a o small
+    judged = opens-consistent τ a o small
 
     pub kept-info : infoBlockOf A ≡ infoBlockOf a
-    kept-info = info-kept τ told a (o .info) small (mends g a n) (λ st m. mends-fits g (judged .ok) a (judged .arena) (judged .lanes) n few st m .range)
+    kept-info = info-kept τ a (o .info) small (mends g a n) (λ st m. mends-fits g (judged .ok) a (judged .arena) (judged .lanes) n few st m .range)
 
     pub kept-small : Small A
     kept-small = mends-arena g (judged .ok) a (judged .arena) (judged .lanes) n .bytes .small
 
     pub kept-opens : Opens τ A
-    kept-opens = consistent-opens τ told A (described-same τ told a A (putAll-length g (mends g a n) a) kept-info (o .info)) (rw kept-info (consistent-kept g a judged n few))
+    kept-opens = consistent-opens τ A (described-same τ a A (putAll-length g (mends g a n) a) kept-info (o .info)) (rw kept-info (consistent-kept g a judged n few))
 
     pub kept-number : (room : ℕ) → openNumber τ A room ≡ openNumber τ a room
     kept-number room =
-        open-number τ told A room kept-opens ∙ ap (λ (b : List ℕ). cond (ltb room ((layoutOf (τ .distance) (figuresOf b)) .I)) 5 0) kept-info ∙ sym (open-number τ told a room o)
+        open-number τ A room kept-opens ∙ ap (λ (b : List ℕ). cond (ltb room ((layoutOf (τ .distance) (figuresOf b)) .I)) 5 0) kept-info ∙ sym (open-number τ a room o)
 
     pub kept-mended : mended (layoutIn τ A) A ≡ mended (layoutIn τ a) a
     kept-mended = ap (λ (b : List ℕ). mended (layoutOf (τ .distance) (figuresOf b)) A) kept-info ∙ mended-kept g a judged n few

@@ -12,15 +12,17 @@ use borrow.Author.Tests.{ltb-false, le-ltb, not-false}
 use Rattle.words.specs.Bytes.{Small}
 use Rattle.layout.specs.Figures.{lengthAllowed}
 use Rattle.layout.specs.Place.{Layout, layoutOf}
+use Rattle.layout.specs.Told.{distanceAllowed}
 use Rattle.format.specs.MapWord.{badWord}
 use Rattle.infoblock.specs.Info.{infoBlockOf, infoAllowed, flagsAllowed}
 use Rattle.format.proofs.Tests.{or-false, every-intro, every-elim, some-intro, some-elim}
 use Rattle.machine.specs.declared.lane.Lane.{Lane}
-use Rattle.machine.specs.state.Handle.{Handle, laneAt, ToldOk}
+use Rattle.machine.specs.state.Handle.{Handle, laneAt}
 use Rattle.machine.specs.state.Flog.{mapWord}
 use Rattle.machine.specs.Rules.{answer}
 use Rattle.machine.specs.calls.Opening.{
   OpenRule,
+  wrongLayout,
   wrongLength,
   noInfoBlock,
   forbiddenFigure,
@@ -73,6 +75,7 @@ words-pass g a = some-elim (g .E) (λ s. badWord (g .I) (mapWord g a s))
 -- ---- what an accepted opening passed
 
 pub some-number-open : (r : OpenRule) → numberOpen r ≢ 0
+some-number-open wrongLayout e = omega arith
 some-number-open wrongLength e = omega arith
 some-number-open noInfoBlock e = omega arith
 some-number-open forbiddenFigure e = omega arith
@@ -84,6 +87,7 @@ some-number-open sloppyArena e = omega arith
 some-number-open notValid e = omega arith
 
 pub record OpeningPassed (τ : Told) (a : List ℕ) (n : ℕ) : Type 0 where
+  pub layout : distanceAllowed (τ .distance) ≡ true
   pub size : lengthAllowed (length a) ≡ true
   pub block : eqb (length (infoBlockOf a)) 0 ≡ false
   pub allowed : infoAllowed τ (infoBlockOf a) (length a) ≡ true
@@ -95,7 +99,8 @@ pub record OpeningPassed (τ : Told) (a : List ℕ) (n : ℕ) : Type 0 where
   pub settled : unsettled (layoutIn τ a) a ≡ false
 
 opening-passed : (τ : Told) (a : List ℕ) (room : ℕ) → Passed numberOpen (testsOpen τ a room) orderOpen → OpeningPassed τ a room
-opening-passed τ a room (p1, (p2, (p3, (p4, (p5, (p6, (p7, (p18, (p8, _))))))))) = record {
+opening-passed τ a room (p16, (p1, (p2, (p3, (p4, (p5, (p6, (p7, (p18, (p8, _)))))))))) = record {
+  layout = not-false _ p16;
   size = not-false _ p1;
   block = p2;
   allowed = not-false _ p3;
@@ -107,11 +112,11 @@ opening-passed τ a room (p1, (p2, (p3, (p4, (p5, (p6, (p7, (p18, (p8, _))))))))
   settled = p8;
 }
 
-module _ (τ : Told) (told : ToldOk τ) where
+module _ (τ : Told) where
   module _ (a : List ℕ) (room : ℕ) where
     pub open-number : Opens τ a → openNumber τ a room ≡ cond (ltb room ((layoutIn τ a) .I)) 5 0
     unfolding openNumber answer
-    open-number o = rw (o .info .size, o .info .block, o .info .allowed, o .info .flags, o .lanes, o .words, o .clean, o .settled)
+    open-number o = rw (o .info .layout, o .info .size, o .info .block, o .info .allowed, o .info .flags, o .lanes, o .words, o .clean, o .settled)
 
     pub zero-open : Opens τ a → (layoutIn τ a) .I ≤ room → openNumber τ a room ≡ 0
     zero-open o h = open-number o ∙ rw (le-ltb room ((layoutIn τ a) .I) h)
@@ -121,7 +126,7 @@ module _ (τ : Told) (told : ToldOk τ) where
     open-zero e =
         let p = opening-passed τ a room (passed-all numberOpen some-number-open (testsOpen τ a room) orderOpen e) in (
           record {
-            info = record { size = p .size; block = p .block; allowed = p .allowed; flags = p .flags };
+            info = record { layout = p .layout; size = p .size; block = p .block; allowed = p .allowed; flags = p .flags };
             lanes = p .lanes;
             words = p .words;
             clean = p .clean;
@@ -160,8 +165,8 @@ module _ (τ : Told) (told : ToldOk τ) where
   opens-consistent a o small = let g = layoutIn τ a in
       let p = or-false (twoPending g a) _ (o .settled) in
       record {
-        ok = described-layout τ told a (o .info);
-        arena = described-arena τ told a (o .info) small;
+        ok = described-layout τ a (o .info);
+        arena = described-arena τ a (o .info) small;
         lanes = lanes-pass g a (o .lanes);
         words = words-pass g a (o .words);
         tidy = tidy-of g a (o .clean);

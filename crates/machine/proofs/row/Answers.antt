@@ -12,7 +12,7 @@ use Rattle.machine.specs.state.Flog.{mapWord}
 use Rattle.format.proofs.Tests.{by-bool, some-same}
 use Rattle.machine.specs.Rules.{answer}
 use Rattle.machine.specs.declared.lane.Lane.{Lane}
-use Rattle.machine.specs.state.Handle.{Handle, laneAt, laidOut, ToldOk}
+use Rattle.machine.specs.state.Handle.{Handle, laneAt, laidOut}
 use Rattle.machine.specs.calls.Reading.{readOf}
 use Rattle.machine.specs.calls.Judging.{inFlight, tests, callNumber}
 use Rattle.machine.specs.calls.Order.{
@@ -47,7 +47,7 @@ flying-busy r bytes = by-bool (isBusy r) _ (λ t. rw t) (λ t. rw t)
 flying-to : (r : Lane) (bytes : List ℕ) (s : ℕ) → fliesTo s (flightOf r bytes) ≡ isBusy r && eqb (r .sector .0) s
 flying-to r bytes s = by-bool (isBusy r) _ (λ t. rw t) (λ t. rw t)
 
-module _ (τ : Told) (told : ToldOk τ) where
+module _ (τ : Told) where
   module _ (row : Row) (a : List ℕ) (h : Handle) (k : Rep τ row a h) where
     pub busy-is : (l : ℕ) → l < h .figures .lanes → isBusy (laneAt (h .lanes) l) ≡ isFlying (row .lane l)
     busy-is l u =
@@ -66,15 +66,15 @@ module _ (τ : Told) (told : ToldOk τ) where
     bad-is s u = rw (k .sector s (sectors-in (h .distance) (h .figures) s u)) (by-bool (eqb (readingOf (flagsOf (mapWord (laidOut h) a s))) 1) _ (λ t. rw t) (λ t. rw t))
 
     agree : (r : Rule) → Needs (h .figures) r → tests a h r ≡ rowTests (h .figures) row r
-    agree badHandle u = rw (held-allowed τ told a h (k .held))
+    agree badHandle u = rw (held-allowed τ a h (k .held))
     agree (noSuchSector s) u = refl
     agree (wrongBuffer n) u = refl
     agree (noSuchLane l) u = refl
     agree (laneBusy l) u = busy-is l u
     agree (laneIdle l) u = ap not (busy-is l u)
     agree (sectorBusy s) u = flight-is s
-    agree (badMapWord s) u = held-word τ told a h (k .held) s u
-    agree (sloppyMapWord s) u = held-clean τ told a h (k .held) s u
+    agree (badMapWord s) u = held-word τ a h (k .held) s u
+    agree (sloppyMapWord s) u = held-clean τ a h (k .held) s u
     agree (badSector s) u = bad-is s u
 
     pub number-is : (c : Call) → callNumber a h c ≡ rowNumber (h .figures) row c
@@ -85,5 +85,5 @@ module _ (τ : Told) (told : ToldOk τ) where
     pub read-is : (s : ℕ) (buffer : List ℕ) → readOf a h s buffer ≡ rowRead (h .figures) row s buffer
     unfolding rowRead rowNumber answer
     read-is s buffer =
-        held-read τ told a h (k .held) s buffer
+        held-read τ a h (k .held) s buffer
         ∙ read-past (h .figures) (contentOf (h .distance) (h .figures) a s) (row .sector s) s buffer (λ u. sym (k .sector s (sectors-in (h .distance) (h .figures) s u)))

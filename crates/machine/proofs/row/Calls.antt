@@ -15,7 +15,7 @@ use Rattle.format.proofs.Tests.{by-bool}
 use Rattle.layout.specs.Place.{Layout, layoutOf}
 use Rattle.layout.specs.declared.Figures.{Figures}
 use Rattle.machine.specs.Rules.{answer}
-use Rattle.machine.specs.state.Handle.{Handle, laidOut, ToldOk}
+use Rattle.machine.specs.state.Handle.{Handle, laidOut}
 use Rattle.machine.specs.state.Lane.{writeStores}
 use Rattle.machine.specs.calls.Writing.{Outcome, startNumber, startOf, stepNumber, stepOf, stepsOf, writeNumber, writeOf}
 use Rattle.machine.specs.calls.History.{start, step, write, State, after}
@@ -61,22 +61,22 @@ module _ (τ : Told) where
   abbrev RepAfter : Row → Outcome → Type 0
   RepAfter row o = Rep τ row (o .arena) (o .handle)
 
-module _ (τ : Told) (told : ToldOk τ) where
+module _ (τ : Told) where
   module _ (row : Row) (a : List ℕ) (h : Handle) (k : Rep τ row a h) where
     pub start-rep : (l s : ℕ) → RepAfter τ (rowAfter wordByWord (h .figures) row (start l s)) (startOf a h l s)
     unfolding rowAfter startOf
-    start-rep l s = rw (← (number-is τ told row a h k (start l s))) (by-bool (eqb (startNumber a h l s) 0) _
+    start-rep l s = rw (← (number-is τ row a h k (start l s))) (by-bool (eqb (startNumber a h l s) 0) _
         (λ t. let d = start-found a h l s (eqb-true _ _ t) in
-        rw t (started τ told row a h k l (lanes-in (h .distance) (h .figures) l (d .lane)) s (rw t at (good-start τ told a h l s (k .held)))))
+        rw t (started τ row a h k l (lanes-in (h .distance) (h .figures) l (d .lane)) s (rw t at (good-start τ a h l s (k .held)))))
         (λ t. rw t k))
 
     pub step-rep : (l : ℕ) (buffer : List ℕ) → Small buffer
         → RepAfter τ (rowAfter wordByWord (h .figures) row (step l buffer)) (stepOf a h l buffer)
     unfolding rowAfter stepOf
-    step-rep l buffer small = rw (← (number-is τ told row a h k (step l buffer))) (by-bool (eqb (stepNumber a h l buffer) 0) _
+    step-rep l buffer small = rw (← (number-is τ row a h k (step l buffer))) (by-bool (eqb (stepNumber a h l buffer) 0) _
         (λ t. let d = step-found a h l buffer (eqb-true _ _ t) in
-        rw t (step-any τ told row a h k l (lanes-in (h .distance) (h .figures) l (d .lane)) (d .busy) buffer small (d .size)
-        (rw t at (good-step τ told a h l buffer small (k .held)))))
+        rw t (step-any τ row a h k l (lanes-in (h .distance) (h .figures) l (d .lane)) (d .busy) buffer small (d .size)
+        (rw t at (good-step τ a h l buffer small (k .held)))))
         (λ t. rw t k))
 
   module _ (row : Row) (a : List ℕ) (h : Handle) (k : Rep τ row a h) (l s : ℕ) (buffer : List ℕ) (small : Small buffer)
@@ -116,7 +116,7 @@ module _ (τ : Told) (told : ToldOk τ) where
     -- the start
     begun : Along 0
     unfolding stepsOf rowAfter
-    begun = rw (sym (number-is τ told row a h k (start l s)) ∙ found .start) at (start-rep row a h k l s)
+    begun = rw (sym (number-is τ row a h k (start l s)) ∙ found .start) at (start-rep row a h k l s)
 
     -- one step of the write
     one : (n : ℕ) → Along n → RepAfter τ (rowAfter wordByWord ((stepsMade n) .handle .figures) (flownTo n) (step l buffer)) (stepsMade (suc n))
@@ -125,11 +125,11 @@ module _ (τ : Told) (told : ToldOk τ) where
 
     -- what it leaves of the buffer's first words
     grown : (n : ℕ) → wordByWord ((stepsMade n) .handle .figures) n (take (4 * n) buffer) buffer ≡ take (4 * suc n) buffer
-    grown n = rw (figures-kept n) (kept-same (h .figures) (unfold layoutOf in (held-whole τ told a h (k .held))) buffer (found .size) n
+    grown n = rw (figures-kept n) (kept-same (h .figures) (unfold layoutOf in (held-whole τ a h (k .held))) buffer (found .size) n
         ∙ ap (λ (m : ℕ). take (4 * m) buffer) (add-one n))
 
     more : (n : ℕ) → n < g .W + 4 → Along n → Along (suc n)
-    more n u r = rep-same τ told (flown (flownTo n) l s (suc n) (take (4 * suc n) buffer)) (flownTo (suc n)) _ _
+    more n u r = rep-same τ (flown (flownTo n) l s (suc n) (take (4 * suc n) buffer)) (flownTo (suc n)) _ _
         (λ j _. put-twice (row .lane) l (flying s n (take (4 * n) buffer)) (flying s (suc n) (take (4 * suc n) buffer)) j) (λ _ _. refl) moved
       where
         t : eqb n ((laidOut ((stepsMade n) .handle)) .W + 4) ≡ false
@@ -156,7 +156,7 @@ module _ (τ : Told) (told : ToldOk τ) where
     whole : RepAfter τ written (stepsMade (writeStores g))
     whole = let c : suc m ≡ writeStores g = omega arith in
         subst (λ (n : ℕ). RepAfter τ written (stepsMade n)) c
-        (rep-same τ told (landed buffer) written _ _ (λ j _. calm j (flying s m (take (4 * m) buffer))) (λ _ _. refl)
+        (rep-same τ (landed buffer) written _ _ (λ j _. calm j (flying s m (take (4 * m) buffer))) (λ _ _. refl)
         (subst (λ (x : Row). RepAfter τ x (stepsMade (suc m)))
         (flown-last _ _ row l s m (take (4 * m) buffer) buffer (lane-in m) (size-is m) t ∙ ap landed (grown m ∙ all))
         (one m (along m (omega arith)))))
@@ -172,11 +172,11 @@ module _ (τ : Told) (told : ToldOk τ) where
         landed bytes = record { sector = put (row .sector) s (holds bytes); lane = put ((flownTo (g .W + 4)) .lane) l idle }
 
         all : take (4 * suc (g .W + 4)) buffer ≡ buffer
-        all = take-all (4 * suc (g .W + 4)) buffer (omega (arith, held-whole τ told a h (k .held), found .size))
+        all = take-all (4 * suc (g .W + 4)) buffer (omega (arith, held-whole τ a h (k .held), found .size))
 
   pub write-rep : (row : Row) (a : List ℕ) (h : Handle) → Rep τ row a h → (l s : ℕ) (buffer : List ℕ) → Small buffer
       → RepAfter τ (rowAfter wordByWord (h .figures) row (write l s buffer)) (writeOf a h l s buffer)
   unfolding rowAfter writeOf
-  write-rep row a h k l s buffer small = rw (← (number-is τ told row a h k (write l s buffer))) (by-bool (eqb (writeNumber a h l s buffer) 0) _
+  write-rep row a h k l s buffer small = rw (← (number-is τ row a h k (write l s buffer))) (by-bool (eqb (writeNumber a h l s buffer) 0) _
       (λ t. rw t (whole row a h k l s buffer small (eqb-true _ _ t)))
       (λ t. rw t k))

@@ -5,12 +5,11 @@ use Rattle.machine.proofs.row.SameBytes.{one-buffer-follows}
 use Rattle.machine.proofs.calls.Tables.{read-table, start-table, step-table, write-table}
 use Rattle.machine.proofs.row.Zeroes.{has-zeroes}
 use Rattle.layout.specs.Told.{alone}
-use Rattle.machine.proofs.opening.Described.{told-alone}
 
 pub demand-two : DemandTwo
 demand-two = record {
-  words = words-follow alone told-alone;
-  follows = one-buffer-follows alone told-alone (words-follow alone told-alone);
+  words = λ d. words-follow (alone d);
+  follows = λ d. one-buffer-follows (alone d) (words-follow (alone d));
   zeroes = has-zeroes;
   read = read-table;
   start = start-table;

@@ -60,7 +60,7 @@ use Rattle.machine.proofs.row.Calls.{start-rep, step-rep, write-rep}
 use Rattle.machine.proofs.row.Opens.{lacking-is, settled-is}
 use Rattle.machine.specs.state.Lane.{isBusy}
 use Rattle.layout.specs.declared.Told.{Told}
-use Rattle.machine.specs.state.Handle.{laneAt, ToldOk}
+use Rattle.machine.specs.state.Handle.{laneAt}
 
 -- ---- openings
 
@@ -71,12 +71,12 @@ module _ (τ : Told) where
   abbrev pub RepIn : Row → State → Type 0
   RepIn row x = Rep τ row (x .arena) (x .handle)
 
-module _ (τ : Told) (told : ToldOk τ) where
+module _ (τ : Told) where
   module _ (row : Row) (x : State) (k : RepIn τ row x) (work : List ℕ) where
     open-answer : (openOf τ (x .arena) work) .number ≡ rowOpenNumber (x .handle .figures) (length work)
     unfolding openOf rowOpenNumber layoutOf answer
     open-answer =
-        open-number τ told (x .arena) (length work) (good-opens τ told (x .arena) (x .handle .distance) (x .handle .figures) (x .handle .lanes) (k .held .good))
+        open-number τ (x .arena) (length work) (good-opens τ (x .arena) (x .handle .distance) (x .handle .figures) (x .handle .lanes) (k .held .good))
         ∙ ap (λ (f : Figures). cond (ltb (length work) (f .blocks)) 5 0) (k .held .good .figures)
 
     -- the row's answer goes by the length of the work buffer alone
@@ -87,17 +87,17 @@ module _ (τ : Told) (told : ToldOk τ) where
 
     module _ (room : x .handle .figures .blocks ≤ length work) where
       pub accepted : (openOf τ (x .arena) work) .number ≡ 0
-      accepted = good-number τ told (x .arena) (x .handle .distance) (x .handle .figures) (x .handle .lanes) (k .held .good) work room
+      accepted = good-number τ (x .arena) (x .handle .distance) (x .handle .figures) (x .handle .lanes) (k .held .good) work room
 
       reopened-rep : RepIn τ (reopened (x .handle .figures) row) (openedState (openOf τ (x .arena) work))
       unfolding layoutOf
       reopened-rep =
-          let like = alike-open τ told x work (k .held) accepted in
-          let all = good-arena τ told (x .arena) (x .handle .distance) (x .handle .figures) (x .handle .lanes) (k .held .good) work room in
+          let like = alike-open τ x work (k .held) accepted in
+          let all = good-arena τ (x .arena) (x .handle .distance) (x .handle .figures) (x .handle .lanes) (k .held .good) work room in
           record {
-            held = held-open τ told (x .arena) work (held-small τ told x (k .held)) accepted;
-            lane = λ l u. idle-as _ _ _ _ (word-idle (laneAt ((openOf τ (x .arena) work) .handle .lanes) l) (opened-idle τ told (x .arena) work accepted l u));
-            sector = rw (like .distance, like .figures, all) (settled-is τ told row (x .arena) (x .handle) k (x .handle .figures .lanes) (omega arith));
+            held = held-open τ (x .arena) work (held-small τ x (k .held)) accepted;
+            lane = λ l u. idle-as _ _ _ _ (word-idle (laneAt ((openOf τ (x .arena) work) .handle .lanes) l) (opened-idle τ (x .arena) work accepted l u));
+            sector = rw (like .distance, like .figures, all) (settled-is τ row (x .arena) (x .handle) k (x .handle .figures .lanes) (omega arith));
           }
 
       open-work : (openOf τ (x .arena) work) .work ≡ replicate (x .handle .figures .blocks) 0 ++ drop (x .handle .figures .blocks) work
@@ -110,8 +110,8 @@ module _ (τ : Told) (told : ToldOk τ) where
       open-mended : (openOf τ (x .arena) work) .mended ≡ lacking (x .handle .figures) row (x .handle .figures .lanes)
       unfolding layoutOf
       open-mended =
-          good-count τ told (x .arena) (x .handle .distance) (x .handle .figures) (x .handle .lanes) (k .held .good) work room
-          ∙ sym (lacking-is τ told row (x .arena) (x .handle) k (x .handle .figures .lanes) (omega arith))
+          good-count τ (x .arena) (x .handle .distance) (x .handle .figures) (x .handle .lanes) (k .held .good) work room
+          ∙ sym (lacking-is τ row (x .arena) (x .handle) k (x .handle .figures .lanes) (omega arith))
 
     module _ (short : ltb (length work) (x .handle .figures .blocks) ≡ true) where
       refused : (openOf τ (x .arena) work) .number ≡ 5
@@ -119,7 +119,7 @@ module _ (τ : Told) (told : ToldOk τ) where
 
       refused-work : (openOf τ (x .arena) work) .work ≡ work
       unfolding openOf workAfter answer
-      refused-work = rw (d .size, d .block, d .allowed, d .flags, short-in)
+      refused-work = rw (d .layout, d .size, d .block, d .allowed, d .flags, short-in)
         where
           d : Described τ (x .arena)
           d = k .held .good .info
@@ -151,18 +151,18 @@ module _ (τ : Told) (told : ToldOk τ) where
 
   call-reply : (row : Row) (x : State) → RepIn τ row x → (c : Call) → reply x c ≡ rowReply (x .handle .figures) row c
   unfolding rowReply startOf stepOf writeOf
-  call-reply row x k (read s buffer) = rw (read-is τ told row (x .arena) (x .handle) k s buffer)
-  call-reply row x k (start l s) = rw (number-is τ told row (x .arena) (x .handle) k (start l s))
-  call-reply row x k (step l buffer) = rw (number-is τ told row (x .arena) (x .handle) k (step l buffer))
-  call-reply row x k (write l s buffer) = rw (number-is τ told row (x .arena) (x .handle) k (write l s buffer))
+  call-reply row x k (read s buffer) = rw (read-is τ row (x .arena) (x .handle) k s buffer)
+  call-reply row x k (start l s) = rw (number-is τ row (x .arena) (x .handle) k (start l s))
+  call-reply row x k (step l buffer) = rw (number-is τ row (x .arena) (x .handle) k (step l buffer))
+  call-reply row x k (write l s buffer) = rw (number-is τ row (x .arena) (x .handle) k (write l s buffer))
 
   call-rep : (row : Row) (x : State) → RepIn τ row x → (c : Call) → SmallCall c
       → RepIn τ (rowAfter wordByWord (x .handle .figures) row c) (after x c)
   call-rep row x k (read s buffer) small = unfold rowAfter in
       (by-bool (eqb (rowNumber (x .handle .figures) row (read s buffer)) 0) _ (λ t. rw t k) (λ t. rw t k))
-  call-rep row x k (start l s) small = start-rep τ told row (x .arena) (x .handle) k l s
-  call-rep row x k (step l buffer) small = step-rep τ told row (x .arena) (x .handle) k l buffer small
-  call-rep row x k (write l s buffer) small = write-rep τ told row (x .arena) (x .handle) k l s buffer small
+  call-rep row x k (start l s) small = start-rep τ row (x .arena) (x .handle) k l s
+  call-rep row x k (step l buffer) small = step-rep τ row (x .arena) (x .handle) k l buffer small
+  call-rep row x k (write l s buffer) small = write-rep τ row (x .arena) (x .handle) k l s buffer small
 
   -- ---- both
 

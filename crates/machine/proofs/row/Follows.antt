@@ -7,7 +7,7 @@ use Prim.Native.Nat.{ℕ, _≤_, _<_}
 use lib.ListN.{length, replicate}
 use Rattle.words.specs.Bytes.{Small}
 use Rattle.layout.specs.declared.Figures.{Figures}
-use Rattle.machine.specs.state.Handle.{laneAt, laidOut, ToldOk}
+use Rattle.machine.specs.state.Handle.{laneAt, laidOut}
 use Rattle.machine.specs.calls.Opening.{figuresIn, openOf}
 use Rattle.machine.specs.calls.Reading.{readOf}
 use Rattle.machine.specs.calls.History.{
@@ -52,7 +52,7 @@ use Rattle.machine.proofs.row.Events.{RepIn, idle-as, accepted, event-r
 use Rattle.machine.specs.state.Lane.{isBusy}
 use Rattle.layout.specs.declared.Told.{Told}
 
-module _ (τ : Told) (told : ToldOk τ) where
+module _ (τ : Told) where
   -- ---- the row that an arena begins with
 
   pub first-rep : (x : State) → HeldIn τ x → AllIdle (x .handle) → RepIn τ (firstRow x) x
@@ -60,14 +60,14 @@ module _ (τ : Told) (told : ToldOk τ) where
     where
       found : (s : ℕ) → s < (laidOut (x .handle)) .E
           → foundSector (readOf (x .arena) (x .handle) s (replicate (x .handle .figures .size) 0)) ≡ contentOf (x .handle .distance) (x .handle .figures) (x .arena) s
-      found s u = ap foundSector (held-read τ told (x .arena) (x .handle) k s _) ∙ read-found (x .handle .figures) _ s (sectors-out (x .handle .distance) (x .handle .figures) s u)
+      found s u = ap foundSector (held-read τ (x .arena) (x .handle) k s _) ∙ read-found (x .handle .figures) _ s (sectors-out (x .handle .distance) (x .handle .figures) s u)
 
   -- ---- event by event
 
   -- one event, where the figures are f
   event-of : (f : Figures) (row : Row) (x : State) (e : Event) → x .handle .figures ≡ f → RepIn τ row x → SmallEvent e
       → (replyEvent τ x e ≡ rowReplyEvent f row e) × RepIn τ (rowAfterEvent wordByWord f row e) (afterEvent τ x e)
-  event-of f row x e g k small = rw (← g) (event-reply τ told row x k e, event-rep τ told row x k e small)
+  event-of f row x e g k small = rw (← g) (event-reply τ row x k e, event-rep τ row x k e small)
 
   follow : (f : Figures) (es : List Event) (row : Row) (x : State) → x .handle .figures ≡ f → RepIn τ row x → SmallEvents es
       → (replyEvents τ x es ≡ rowReplies wordByWord f row es) × RepIn τ (rowAfterAll wordByWord f row es) (runEvents τ x es)
@@ -75,7 +75,7 @@ module _ (τ : Told) (told : ToldOk τ) where
   follow f [] row x g k small = (refl, k)
   follow f (e ∷ es) row x g k small =
       let p = event-of f row x e g k (small e (List·Memᴰ·head refl)) in
-      let q = follow f es (rowAfterEvent wordByWord f row e) (afterEvent τ x e) (alike-event τ told x e (k .held) .figures ∙ g) (p .1)
+      let q = follow f es (rowAfterEvent wordByWord f row e) (afterEvent τ x e) (alike-event τ x e (k .held) .figures ∙ g) (p .1)
       (λ d m. small d (List·Memᴰ·tail m)) in
       (ap₂ {C = List Reply} (λ r rs. r ∷ rs) (p .0) (q .0), q .1)
 
@@ -86,34 +86,34 @@ module _ (τ : Told) (told : ToldOk τ) where
     all-idle l v = word-idle (laneAt (x .handle .lanes) l) (calm l (lanes-out (x .handle .distance) (x .handle .figures) l v))
 
     opens : (openOf τ (x .arena) room) .number ≡ 0
-    opens = accepted τ told row x k room u
+    opens = accepted τ row x k room u
 
     same-arena : (openOf τ (x .arena) room) .arena ≡ x .arena
-    same-arena = idle-arena τ told (x .arena) (x .handle .distance) (x .handle .figures) (x .handle .lanes) (k .held .good) room u all-idle
+    same-arena = idle-arena τ (x .arena) (x .handle .distance) (x .handle .figures) (x .handle .lanes) (k .held .good) room u all-idle
 
     same-distance : (openOf τ (x .arena) room) .handle .distance ≡ x .handle .distance
-    same-distance = alike-open τ told x room (k .held) opens .distance
+    same-distance = alike-open τ x room (k .held) opens .distance
 
     same-figures : (openOf τ (x .arena) room) .handle .figures ≡ x .handle .figures
-    same-figures = alike-open τ told x room (k .held) opens .figures
+    same-figures = alike-open τ x room (k .held) opens .figures
 
     idle-lane : (l : ℕ) → l < (laidOut (x .handle)) .N → row .lane l ≡ idle
     idle-lane l v = k .lane l v .is ∙ rw (all-idle l v)
 
     again-rep : RepIn τ row (openedState (openOf τ (x .arena) room))
     again-rep = record {
-      held = held-open τ told (x .arena) room (held-small τ told x (k .held)) opens;
-      lane = λ l v. rw (idle-lane l (rw (same-distance, same-figures) at v)) (idle-as _ _ _ _ (word-idle (laneAt ((openOf τ (x .arena) room) .handle .lanes) l) (opened-idle τ told (x .arena) room opens l (lanes-out _ _ l v))));
+      held = held-open τ (x .arena) room (held-small τ x (k .held)) opens;
+      lane = λ l v. rw (idle-lane l (rw (same-distance, same-figures) at v)) (idle-as _ _ _ _ (word-idle (laneAt ((openOf τ (x .arena) room) .handle .lanes) l) (opened-idle τ (x .arena) room opens l (lanes-out _ _ l v))));
       sector = rw (same-distance, same-figures, same-arena) (k .sector);
     }
 
     opens-again : OpensAgain τ x row room
     opens-again = record {
       number = opens;
-      mended = idle-count τ told (x .arena) (x .handle .distance) (x .handle .figures) (x .handle .lanes) (k .held .good) room u all-idle;
+      mended = idle-count τ (x .arena) (x .handle .distance) (x .handle .figures) (x .handle .lanes) (k .held .good) room u all-idle;
       arena = same-arena;
-      reads = λ s buffer. read-is τ told row ((openOf τ (x .arena) room) .arena) ((openOf τ (x .arena) room) .handle) again-rep s buffer
-          ∙ ap (λ (f : Figures). rowRead f row s buffer) (same-figures ∙ sym (held-figures τ told x (k .held)));
+      reads = λ s buffer. read-is τ row ((openOf τ (x .arena) room) .arena) ((openOf τ (x .arena) room) .handle) again-rep s buffer
+          ∙ ap (λ (f : Figures). rowRead f row s buffer) (same-figures ∙ sym (held-figures τ x (k .held)));
     }
 
   -- ---- the claim
@@ -121,32 +121,33 @@ module _ (τ : Told) (told : ToldOk τ) where
   module _ (a work : List ℕ) (hs : List Happening) (small : Small a) (smalls : SmallEvents (latestOf hs)) (e : (openOf τ a work) .number ≡ 0)
       (harmless : AllHarmless τ (openedFrom τ a work) hs) where
     begins : HeldIn τ (openedFrom τ a work)
-    begins = held-open τ told a work small e
+    begins = held-open τ a work small e
 
     -- the events through the latest handle come to the whole history
     come : runEvents τ (openedFrom τ a work) (latestOf hs) ≡ leaves τ a work hs
-    come = sym (latest-state τ told hs (openedFrom τ a work) harmless)
+    come = sym (latest-state τ hs (openedFrom τ a work) harmless)
 
     ran : (replyEvents τ (openedFrom τ a work) (latestOf hs) ≡ rowReplies wordByWord (figuresIn a) (firstRow (openedFrom τ a work)) (latestOf hs))
         × RepIn τ (rowLeft wordByWord τ a work hs) (runEvents τ (openedFrom τ a work) (latestOf hs))
-    ran = follow (figuresIn a) (latestOf hs) (firstRow (openedFrom τ a work)) (openedFrom τ a work) (opened-figures τ told a work e)
-        (first-rep (openedFrom τ a work) begins (opened-idle τ told a work e)) smalls
+    ran = follow (figuresIn a) (latestOf hs) (firstRow (openedFrom τ a work)) (openedFrom τ a work) (opened-figures τ a work e)
+        (first-rep (openedFrom τ a work) begins (opened-idle τ a work e)) smalls
 
     rep : RepIn τ (rowLeft wordByWord τ a work hs) (leaves τ a work hs)
     rep = subst (RepIn τ (rowLeft wordByWord τ a work hs)) come (ran .1)
 
     figures-last : (leaves τ a work hs) .handle .figures ≡ figuresIn a
     figures-last = subst (λ (x : State). x .handle .figures ≡ figuresIn a) come
-        (alike-events τ told (openedFrom τ a work) (latestOf hs) smalls begins .figures ∙ opened-figures τ told a work e)
+        (alike-events τ (openedFrom τ a work) (latestOf hs) smalls begins .figures ∙ opened-figures τ a work e)
 
     follows-row : FollowsRow wordByWord τ a work hs
     follows-row = record {
-      replies = latest-heard τ told hs (openedFrom τ a work) harmless ∙ ran .0;
-      reads = λ s buffer. read-is τ told _ _ _ rep s buffer ∙ ap (λ (f : Figures). rowRead f (rowLeft wordByWord τ a work hs) s buffer) figures-last;
-      figures = held-figures τ told (leaves τ a work hs) (rep .held) ∙ figures-last;
+      replies = latest-heard τ hs (openedFrom τ a work) harmless ∙ ran .0;
+      reads = λ s buffer. read-is τ _ _ _ rep s buffer ∙ ap (λ (f : Figures). rowRead f (rowLeft wordByWord τ a work hs) s buffer) figures-last;
+      figures = held-figures τ (leaves τ a work hs) (rep .held) ∙ figures-last;
       handle = figures-last;
+      layout = sym (rep .held .good .distance);
       again = λ calm room u. opens-again _ _ rep calm room (rw figures-last u);
     }
 
-pub words-follow : (τ : Told) → ToldOk τ → FollowsWords τ
-words-follow τ told = follows-row τ told
+pub words-follow : (τ : Told) → FollowsWords τ
+words-follow τ = follows-row τ

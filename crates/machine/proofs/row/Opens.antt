@@ -14,7 +14,7 @@ use Rattle.format.specs.MapWord.{mappedTo}
 use Rattle.format.proofs.Tests.{true-false, by-bool}
 use Rattle.layout.specs.Place.{Layout, inData, inMap, at}
 use Rattle.machine.specs.declared.lane.Lane.{Lane}
-use Rattle.machine.specs.state.Handle.{Handle, laneAt, laidOut, ToldOk}
+use Rattle.machine.specs.state.Handle.{Handle, laneAt, laidOut}
 use Rattle.machine.specs.state.Stores.{putAll}
 use Rattle.machine.specs.state.Flog.{mapWord}
 use Rattle.machine.specs.models.Row.{Sector, holds, Row, put, lacksLast, finished, settled, lacking}
@@ -32,7 +32,7 @@ use Rattle.machine.proofs.row.Steps.{last-store}
 use Rattle.machine.specs.state.Lane.{isBusy}
 use Rattle.layout.specs.declared.Told.{Told}
 
-module _ (τ : Told) (told : ToldOk τ) where
+module _ (τ : Told) where
   -- the stores of an opening are map words, and leave a data word
   finals-data : (g : Layout) (lanes : List Lane) (a : List ℕ) → Inv g a lanes → (b k : ℕ) → b < g .I → k < g .W → (n : ℕ) → n ≤ g .N
       → word (putAll g (finals g lanes n) a) (at g (inData b k)) ≡ word a (at g (inData b k))
@@ -103,13 +103,13 @@ module _ (τ : Told) (told : ToldOk τ) where
       -- the lane's sector, and the others
       landed : (s : ℕ) → s ≡ r .sector .0 → contentOf (h .distance) (h .figures) (endedIn (suc n)) s ≡ holds (k .lane n u .bytes)
       landed s e = let m = ended-true g r t in
-          content-mapped (h .distance) (h .figures) (i .ok) (held-whole τ told a h (k .held)) (endedIn (suc n)) (ended-inv (suc n) u .arena) s (r .block .0)
+          content-mapped (h .distance) (h .figures) (i .ok) (held-whole τ a h (k .held)) (endedIn (suc n)) (ended-inv (suc n) u .arena) s (r .block .0)
           (i .lane n u .block-in) (map-word s e) (k .lane n u .bytes) (lent .small) (lent .full (omega arith))
           (λ x c d. same-data (r .block .0) x (i .lane n u .block-in) d ∙ lent .words x (omega arith) d)
 
       left : (s : ℕ) → s < g .E → s ≢ r .sector .0 → contentOf (h .distance) (h .figures) (endedIn (suc n)) s ≡ contentOf (h .distance) (h .figures) (endedIn n) s
       left s v d = let w = ended-inv n (omega arith) in
-          content-kept (h .distance) (h .figures) (i .ok) (held-whole τ told a h (k .held)) (endedIn n) (endedIn (suc n)) (w .arena) (ended-inv (suc n) u .arena) s
+          content-kept (h .distance) (h .figures) (i .ok) (held-whole τ a h (k .held)) (endedIn n) (endedIn (suc n)) (w .arena) (ended-inv (suc n) u .arena) s
           (w .map-in s v) (map-other s v d)
           (λ x c. same-data _ x (w .map-in s v) c ∙ sym (finals-data g (h .lanes) a i _ x (w .map-in s v) c n (omega arith)))
 

@@ -10,7 +10,7 @@ use Rattle.format.proofs.Tests.{by-bool}
 use Rattle.layout.specs.declared.Figures.{Figures}
 use Rattle.machine.specs.Rules.{answer}
 use Rattle.machine.specs.calls.Judging.{callNumber}
-use Rattle.machine.specs.state.Handle.{Handle, laidOut, ToldOk}
+use Rattle.machine.specs.state.Handle.{Handle, laidOut}
 use Rattle.layout.specs.declared.Told.{Told}
 use Rattle.machine.specs.state.Flog.{mapWord}
 use Rattle.machine.specs.calls.Reading.{Read, readOf, blockBytes}
@@ -44,13 +44,13 @@ pub read-past : (f : Figures) (c d : Sector) (s : ℕ) (buffer : List ℕ) → (
 unfolding rowRead rowNumber answer
 read-past f c d s buffer e = by-bool (leb (f .sectors) s) _ (λ t. rw t) (λ t. rw (e (leb-false _ _ t)))
 
-module _ (τ : Told) (told : ToldOk τ) where
+module _ (τ : Told) where
   pub held-read : (a : List ℕ) (h : Handle) → Held τ a h → (s : ℕ) (buffer : List ℕ)
       → readOf a h s buffer ≡ readBy (h .figures) (contentOf (h .distance) (h .figures) a s) s buffer
   unfolding readOf callNumber answer rowRead rowNumber contentOf blockBytes
   held-read a h k s buffer =
-      rw (held-allowed τ told a h k) (by-bool (leb (h .figures .sectors) s) _ (λ t. rw t)
-      (λ t. rw (t, held-word τ told a h k s (leb-false _ _ t), held-clean τ told a h k s (leb-false _ _ t))
+      rw (held-allowed τ a h k) (by-bool (leb (h .figures .sectors) s) _ (λ t. rw t)
+      (λ t. rw (t, held-word τ a h k s (leb-false _ _ t), held-clean τ a h k s (leb-false _ _ t))
       (by-bool (eqb (length buffer) (h .figures .size)) _
       (λ v. rw v (by-bool (eqb (readingOf (flagsOf (mapWord (laidOut h) a s))) 1) _ (λ w. rw w) (λ w. rw w))) (λ v. rw v))))
 

@@ -15,7 +15,6 @@ use Rattle.format.proofs.Tests.{by-bool, some-same}
 use Rattle.layout.specs.Place.{layoutOf}
 use Rattle.layout.specs.declared.Figures.{Figures}
 use Rattle.layout.specs.declared.Told.{Told}
-use Rattle.machine.specs.state.Handle.{ToldOk}
 use Rattle.machine.specs.calls.Order.{
   Rule,
   badHandle,
@@ -237,12 +236,12 @@ module _ (f : Figures) (whole : f .size ≡ 4 * (f .size / 4)) where
 
 -- ---- the claim
 
-module _ (τ : Told) (told : ToldOk τ) where
+module _ (τ : Told) where
   module _ (a work : List ℕ) (hs : List Happening) (small : Small a) (e : (openOf τ a work) .number ≡ 0)
       (one : OneBuffer (figuresIn a) (firstRow (openedFrom τ a work)) (latestOf hs)) where
     whole-in : (figuresIn a) .size ≡ 4 * ((figuresIn a) .size / 4)
     unfolding layoutOf
-    whole-in = rw (opened-figures τ told a work e) at (held-whole τ told _ _ (held-open τ told a work small e))
+    whole-in = rw (opened-figures τ a work e) at (held-whole τ _ _ (held-open τ a work small e))
 
     together : (rowReplies wordByWord (figuresIn a) (firstRow (openedFrom τ a work)) (latestOf hs)
         ≡ rowReplies lastBuffer (figuresIn a) (firstRow (openedFrom τ a work)) (latestOf hs))
@@ -260,6 +259,7 @@ module _ (τ : Told) (told : ToldOk τ) where
       reads = λ s buffer. k .reads s buffer ∙ left-reads s buffer;
       figures = k .figures;
       handle = k .handle;
+      layout = k .layout;
       again = λ calm room u. let o = k .again calm room u in record {
         number = o .number;
         mended = o .mended;

@@ -9,7 +9,7 @@ use Rattle.words.specs.Bytes.{Small}
 use Rattle.layout.specs.Place.{layoutOf}
 use Rattle.layout.specs.declared.Figures.{Figures}
 use Rattle.machine.specs.declared.lane.Lane.{Lane}
-use Rattle.machine.specs.state.Handle.{Handle, laneAt, laidOut, ToldOk}
+use Rattle.machine.specs.state.Handle.{Handle, laneAt, laidOut}
 use Rattle.machine.specs.models.Row.{Flight, idle, flying, Row}
 use Rattle.machine.proofs.invariant.Held.{Held}
 use Rattle.machine.proofs.row.Contents.{contentOf, Filled}
@@ -38,7 +38,7 @@ module _ (τ : Told) where
     pub lane : (l : ℕ) → l < (laidOut h) .N → LaneAs (h .distance) (h .figures) a (laneAt (h .lanes) l) (row .lane l)
     pub sector : (s : ℕ) → s < (laidOut h) .E → row .sector s ≡ contentOf (h .distance) (h .figures) a s
 
-module _ (τ : Told) (told : ToldOk τ) where
+module _ (τ : Told) where
   -- what is said of a row is said of its lanes and sectors one by one
   pub rep-same : (row row′ : Row) (a : List ℕ) (h : Handle) → ((l : ℕ) → l < (laidOut h) .N → row′ .lane l ≡ row .lane l)
       → ((s : ℕ) → s < (laidOut h) .E → row′ .sector s ≡ row .sector s) → Rep τ row a h → Rep τ row′ a h

@@ -28,6 +28,7 @@ use Rattle.machine.specs.calls.Order.{
 }
 use Rattle.machine.specs.calls.Opening.{
   OpenRule,
+  wrongLayout,
   wrongLength,
   noInfoBlock,
   forbiddenFigure,
@@ -62,7 +63,7 @@ use Rattle.machine.specs.claims.DemandTwo.{leaves}
 use Rattle.machine.specs.claims.Written.{StaysClean}
 use Rattle.machine.proofs.rules.Rules.{answer-not}
 use Rattle.machine.proofs.rules.Runs.{says-each}
-use Rattle.machine.proofs.opening.Described.{told-alone, told-distance}
+use Rattle.machine.proofs.opening.Described.{described-distance}
 use Rattle.machine.proofs.opening.Clean.{tidy-clean}
 use Rattle.machine.proofs.invariant.Good.{good-figures}
 use Rattle.machine.proofs.invariant.Held.{held-open}
@@ -90,6 +91,7 @@ module _ (f : Figures) (row : Row) where
   call-not c = answer-not number (rowTests f row) 18 (λ e. omega arith) no-rule (order c)
 
 open-rule : (f : Figures) (room : ℕ) (r : OpenRule) → numberOpen r ≡ 18 → rowOpenTests f room r ≡ false
+open-rule f room wrongLayout e = absurd (omega arith)
 open-rule f room wrongLength e = absurd (omega arith)
 open-rule f room noInfoBlock e = absurd (omega arith)
 open-rule f room forbiddenFigure e = absurd (omega arith)
@@ -122,22 +124,22 @@ reply-not f row (opened work) = either (eqb (rowOpenNumber f (length work)) 0) _
 -- ---- the claim
 
 -- what is held is clean
-held-clean-bytes : (x : State) → HeldIn alone x → Clean 16 (x .handle .figures) (x .arena)
-held-clean-bytes x k =
-    let ok = allowed-of (x .handle .figures) (length (x .arena)) (good-figures alone told-alone (x .arena) (x .handle .distance) (x .handle .figures) (x .handle .lanes) (k .good)) in
-    tidy-clean 16 (told-distance 16 refl) (x .handle .figures) (length (x .arena)) ok (x .arena) (held-small alone told-alone x k)
+held-clean-bytes : (d : ℕ) (x : State) → HeldIn (alone d) x → Clean d (x .handle .figures) (x .arena)
+held-clean-bytes d x k =
+    let ok = allowed-of (x .handle .figures) (length (x .arena)) (good-figures (alone d) (x .arena) (x .handle .distance) (x .handle .figures) (x .handle .lanes) (k .good)) in
+    tidy-clean d (described-distance (alone d) (x .arena) (k .good .info)) (x .handle .figures) (length (x .arena)) ok (x .arena) (held-small (alone d) x k)
     (rw (← k .good .distance) at (k .good .inv .tidy))
 
-pub stays-clean : (a work : List ℕ) (hs : List Happening) → Small a → SmallEvents (latestOf hs) → (openOf alone a work) .number ≡ 0
-    → AllHarmless alone (openedFrom alone a work) hs → StaysClean a work hs
-stays-clean a work hs small smalls e harmless =
-    let follows = words-follow alone told-alone a work hs small smalls e harmless in
+pub stays-clean : (d : ℕ) (a work : List ℕ) (hs : List Happening) → Small a → SmallEvents (latestOf hs) → (openOf (alone d) a work) .number ≡ 0
+    → AllHarmless (alone d) (openedFrom (alone d) a work) hs → StaysClean d a work hs
+stays-clean d a work hs small smalls e harmless =
+    let follows = words-follow (alone d) a work hs small smalls e harmless in
     record {
-      clean = subst (λ (f : Figures). Clean 16 f ((leaves alone a work hs) .arena)) (follows .handle) (held-clean-bytes (leaves alone a work hs) held);
+      clean = subst (λ (f : Figures). Clean d f ((leaves (alone d) a work hs) .arena)) (follows .handle) (held-clean-bytes d (leaves (alone d) a work hs) held);
       never = rw (follows .replies)
-          (says-each (rowAfterEvent wordByWord (figuresIn a)) (rowReplyEvent (figuresIn a)) Not18 (reply-not (figuresIn a)) (latestOf hs) (firstRow (openedFrom alone a work)));
+          (says-each (rowAfterEvent wordByWord (figuresIn a)) (rowReplyEvent (figuresIn a)) Not18 (reply-not (figuresIn a)) (latestOf hs) (firstRow (openedFrom (alone d) a work)));
     }
   where
-    held : HeldIn alone (leaves alone a work hs)
-    held = rw (latest-state alone told-alone hs (openedFrom alone a work) harmless)
-        (held-events alone told-alone (openedFrom alone a work) (latestOf hs) smalls (held-open alone told-alone a work small e))
+    held : HeldIn (alone d) (leaves (alone d) a work hs)
+    held = rw (latest-state (alone d) hs (openedFrom (alone d) a work) harmless)
+        (held-events (alone d) (openedFrom (alone d) a work) (latestOf hs) smalls (held-open (alone d) a work small e))

@@ -18,7 +18,7 @@ use Rattle.format.proofs.Tests.{true-false}
 use Rattle.layout.specs.Place.{Layout, layoutOf, Place, inData, inMap, inFlog, InRange, at}
 use Rattle.layout.specs.declared.Figures.{Figures}
 use Rattle.machine.specs.declared.lane.Lane.{Lane}
-use Rattle.machine.specs.state.Handle.{Handle, laneAt, withLane, laidOut, ToldOk}
+use Rattle.machine.specs.state.Handle.{Handle, laneAt, withLane, laidOut}
 use Rattle.machine.specs.state.Lane.{startedLane, storedLane, finishedLane, isBusy}
 use Rattle.machine.specs.state.Stores.{Store, stored}
 use Rattle.machine.specs.state.Flog.{mapBlock}
@@ -53,7 +53,7 @@ lane-as d f a a′ r y e w = record {
   lent = λ b. let t = w .lent b in record { small = t .small; part = t .part; full = t .full; words = λ k c v. e k v ∙ t .words k c v };
 }
 
-module _ (τ : Told) (told : ToldOk τ) where
+module _ (τ : Told) where
   module _ (row : Row) (a : List ℕ) (h : Handle) (k : Rep τ row a h) (l : ℕ) (u : l < (laidOut h) .N) where
     abbrev g : Layout
     g = laidOut h
@@ -88,7 +88,7 @@ module _ (τ : Told) (told : ToldOk τ) where
         begun = record {
           small = below-nil 256 (omega arith);
           part = λ _. refl;
-          full = λ v. omega (arith, held-whole τ told a h (k .held));
+          full = λ v. omega (arith, held-whole τ a h (k .held));
           words = λ x c _. absurd (omega arith);
         }
 
@@ -114,7 +114,7 @@ module _ (τ : Told) (told : ToldOk τ) where
           → row .sector s ≡ contentOf (h .distance) (h .figures) (stored g st a) s
       kept s v nm nd =
           k .sector s v
-          ∙ sym (content-kept (h .distance) (h .figures) (i .ok) (held-whole τ told a h (k .held)) a (stored g st a) (i .arena) (stored-arena g (i .ok) a st (i .arena)) s
+          ∙ sym (content-kept (h .distance) (h .figures) (i .ok) (held-whole τ a h (k .held)) a (stored g st a) (i .arena) (stored-arena g (i .ok) a st (i .arena)) s
           (i .map-in s v) (same-word (inMap s) v nm) (λ n c. same-word (inData (mapBlock g a s) n) (i .map-in s v, c) (nd n)))
 
       -- the words of the lane's new block: the first m, where the store is not, and those from m on
@@ -163,7 +163,7 @@ module _ (τ : Told) (told : ToldOk τ) where
       full v = go (decLt (r .made) (g .W))
         where
           go : Dec (r .made < g .W) → length bytes ≡ h .figures .size
-          go (yes c) = omega (arith, part (omega arith), held-whole τ told a h (k .held))
+          go (yes c) = omega (arith, part (omega arith), held-whole τ a h (k .held))
           go (no c) = ap length (done (omega arith)) ∙ lent .full (omega arith)
 
       -- one store more, not the last
@@ -247,7 +247,7 @@ module _ (τ : Told) (told : ToldOk τ) where
           content : (t : ℕ) → t < g .E → Dec (t ≡ r .sector .0)
               → put (row .sector) (r .sector .0) (holds bytes) t ≡ contentOf (h .distance) (h .figures) (stored g (finalStore r) a) t
           content t v (yes e) = rw (e, eq-eqb s s refl)
-              (sym (content-mapped (h .distance) (h .figures) (i .ok) (held-whole τ told a h (k .held)) _ (stored-arena g (i .ok) a st (i .arena)) s
+              (sym (content-mapped (h .distance) (h .figures) (i .ok) (held-whole τ a h (k .held)) _ (stored-arena g (i .ok) a st (i .arena)) s
               (r .block .0) (i .lane l u .block-in) (stored-word g (i .ok) a st (i .arena) fits) bytes bytes-small (full (omega arith))
               (filled st (fits .range) bytes _ _ so-far (λ x p q w. absurd (omega arith)) (λ x _. no-block _ x))))
           content t v (no n) = rw (ne-eqb t s n) (kept st (fits .range) t v (λ e. n (cc)) (no-block _))

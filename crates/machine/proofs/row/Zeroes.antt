@@ -21,25 +21,25 @@ use Rattle.machine.proofs.row.Contents.{contentOf, content-zero}
 use Rattle.machine.proofs.row.Reads.{readBy, held-read, read-holds}
 use Rattle.machine.proofs.row.Follows.{first-rep}
 use Rattle.machine.specs.state.Handle.{laidOut}
+use Rattle.layout.specs.Claims.{Distance}
 use Rattle.layout.specs.Told.{alone}
-use Rattle.machine.proofs.opening.Described.{told-alone}
 
-module _ (o : Wanted) (a work : List ℕ) (small : Small a) (first : Small (o .first)) (second : Small (o .second)) (e : (makeOf o a) .number ≡ 0)
+module _ (d : ℕ) (w : Distance d) (o : Wanted) (a work : List ℕ) (small : Small a) (first : Small (o .first)) (second : Small (o .second)) (e : (makeOf o a) .number ≡ 0)
     (room : o .sectors + o .lanes ≤ length work) where
   made : FreshArena o a
   made = making-claim .made o a small first second e
 
   abbrev x : State
-  x = openedFrom alone ((makeOf o a) .arena) work
+  x = openedFrom (alone d) ((makeOf o a) .arena) work
 
-  pub made-held : HeldIn alone x
-  made-held = held-open alone told-alone ((makeOf o a) .arena) work (made-small o a small first second e) (made .number work room)
+  pub made-held : HeldIn (alone d) x
+  made-held = held-open (alone d) ((makeOf o a) .arena) work (made-small o a small first second e) (made .opens d w .number work room)
 
   pub made-figures : x .handle .figures ≡ freshFigures (o .size) (o .sectors) (o .lanes)
-  made-figures = opened-figures alone told-alone ((makeOf o a) .arena) work (made .number work room) ∙ made .figures
+  made-figures = opened-figures (alone d) ((makeOf o a) .arena) work (made .opens d w .number work room) ∙ made .figures
 
-  distance : x .handle .distance ≡ 16
-  distance = opened-distance alone told-alone ((makeOf o a) .arena) work (made .number work room)
+  distance : x .handle .distance ≡ d
+  distance = opened-distance (alone d) ((makeOf o a) .arena) work (made .opens d w .number work room)
 
   sector-in : (s : ℕ) → s < o .sectors → s < (laidOut (x .handle)) .E
   unfolding layoutOf freshFigures
@@ -51,20 +51,20 @@ module _ (o : Wanted) (a work : List ℕ) (small : Small a) (first : Small (o .f
 
   content : (s : ℕ) → s < o .sectors → contentOf (x .handle .distance) (x .handle .figures) (x .arena) s ≡ holds (replicate (o .size) 0)
   content s u =
-      content-zero (x .handle .distance) (x .handle .figures) (x .arena) s (rw (distance, made-figures ∙ sym (made .figures), made .arena work) (map-words o a small first second e s u))
+      content-zero (x .handle .distance) (x .handle .figures) (x .arena) s (rw (distance, made-figures ∙ sym (made .figures), made .opens d w .arena work) (map-words o a small first second e d w s u))
       ∙ ap (λ (n : ℕ). holds (replicate n 0)) size-in
 
-  zero-row : (s : ℕ) → s < o .sectors → (firstRow (openedFrom alone ((makeOf o a) .arena) work)) .sector s ≡ holds (replicate (o .size) 0)
+  zero-row : (s : ℕ) → s < o .sectors → (firstRow (openedFrom (alone d) ((makeOf o a) .arena) work)) .sector s ≡ holds (replicate (o .size) 0)
   zero-row s u =
-      first-rep alone told-alone x made-held (opened-idle alone told-alone ((makeOf o a) .arena) work (made .number work room)) .sector s (sector-in s u) ∙ content s u
+      first-rep (alone d) x made-held (opened-idle (alone d) ((makeOf o a) .arena) work (made .opens d w .number work room)) .sector s (sector-in s u) ∙ content s u
 
   zero-reads : (s : ℕ) → s < o .sectors → (buffer : List ℕ) → length buffer ≡ o .size
-      → readOf ((openedFrom alone ((makeOf o a) .arena) work) .arena) ((openedFrom alone ((makeOf o a) .arena) work) .handle) s buffer
+      → readOf ((openedFrom (alone d) ((makeOf o a) .arena) work) .arena) ((openedFrom (alone d) ((makeOf o a) .arena) work) .handle) s buffer
       ≡ record { number = 0; buffer = replicate (o .size) 0 }
   zero-reads s u buffer n =
-      held-read alone told-alone (x .arena) (x .handle) made-held s buffer
+      held-read (alone d) (x .arena) (x .handle) made-held s buffer
       ∙ ap (λ (c : Sector). readBy (x .handle .figures) c s buffer) (content s u)
       ∙ read-holds (x .handle .figures) (replicate (o .size) 0) s buffer (sectors-out (x .handle .distance) (x .handle .figures) s (sector-in s u)) (n ∙ sym size-in)
 
-  pub has-zeroes : (s : ℕ) → s < o .sectors → HasZeroes (o .size) (openedFrom alone ((makeOf o a) .arena) work) s
+  pub has-zeroes : (s : ℕ) → s < o .sectors → HasZeroes (o .size) (openedFrom (alone d) ((makeOf o a) .arena) work) s
   has-zeroes s u = record { row = zero-row s u; reads = zero-reads s u }

@@ -70,7 +70,8 @@ pub data Event : Type 0 where
   called : Call → Event
   opened : List ℕ → Event
 
--- every opening is told the same; its handle is the latest from then on; a refused opening gives none
+-- every opening is told the same, so that its layout is the latest handle's; its handle is the latest from then on; a refused opening gives
+-- none
 module _ (t : Told) where
   abbrev pub afterEvent : State → Event → State
   afterEvent x (called c) = after x c

@@ -7,7 +7,7 @@ use lib.ListN.{length, replicate}
 use Rattle.words.specs.Word.{putWords}
 use Rattle.layout.specs.Figures.{lengthAllowed, sizesAllowed, freshLength, freshFigures}
 use Rattle.layout.specs.Place.{Layout, layoutOf}
-use Rattle.layout.specs.Told.{alone}
+use Rattle.layout.specs.Told.{aloneNear}
 use Rattle.infoblock.specs.Info.{infoWords}
 use Rattle.machine.specs.Rules.{answer}
 
@@ -61,12 +61,13 @@ tailWords g info =
     replicate (g .flog₀ - dataEnd g) 0
     ++ (freshFlog (g .E) 0 (g .N) ++ (replicate (g .copy₀ - (g .flog₀ + 16 * g .N)) 0 ++ info))
 
--- the two info blocks and all that follows the data blocks; data blocks are not touched
+-- the two info blocks and all that follows the data blocks; data blocks are not touched. Making has no layout: where its parts start is the
+-- same in all
 unfoldable pub freshArena : Wanted → List ℕ → List ℕ
 freshArena o a =
     let f = freshFigures (o .size) (o .sectors) (o .lanes) in
     let info = infoWords (o .first) (o .second) f in
-    let g = layoutOf (alone .distance) f in
+    let g = layoutOf (aloneNear .distance) f in
     putWords (putWords a 0 info) (dataEnd g) (tailWords g info)
 
 pub record MakeOutcome : Type 0 where

@@ -9,6 +9,7 @@ use Rattle.format.specs.Sequence.{successor}
 use Rattle.format.specs.MapWord.{mappedTo, badWord, sloppyWord}
 use Rattle.layout.specs.Figures.{lengthAllowed}
 use Rattle.layout.specs.Place.{Layout, layoutOf, inMap}
+use Rattle.layout.specs.Told.{distanceAllowed}
 use Rattle.layout.specs.declared.Figures.{Figures}
 use Rattle.layout.specs.declared.Told.{Told}
 use Rattle.infoblock.specs.Info.{infoBlockOf, infoAllowed, flagsAllowed, figuresOf}
@@ -86,8 +87,9 @@ sloppy g a = wordSloppy g a || lanePadded g a
 abbrev pub unsettled : Layout → List ℕ → Bool
 unsettled g a = twoPending g a || not (eachOnce g (mapBlock g (mended g a)) (freeOf g a))
 
--- a condition of document 01's table at opening, or 18 of a sloppy arena
+-- a condition of document 01's table at opening, 16 of a layout that is told, or 18 of a sloppy arena
 pub data OpenRule : Type 0 where
+  wrongLayout : OpenRule
   wrongLength : OpenRule
   noInfoBlock : OpenRule
   forbiddenFigure : OpenRule
@@ -99,6 +101,7 @@ pub data OpenRule : Type 0 where
   notValid : OpenRule
 
 abbrev pub numberOpen : OpenRule → ℕ
+numberOpen wrongLayout = 16
 numberOpen wrongLength = 1
 numberOpen noInfoBlock = 2
 numberOpen forbiddenFigure = 3
@@ -109,9 +112,10 @@ numberOpen badWords = 7
 numberOpen sloppyArena = 18
 numberOpen notValid = 8
 
--- what is judged of the length and the info block, and with the work buffer's length all that is judged before that buffer is used
+-- what is judged of the layout that is told, the length and the info block, and with the work buffer's length all that is judged before that
+-- buffer is used
 abbrev pub infoRules : List OpenRule
-infoRules = wrongLength ∷ noInfoBlock ∷ forbiddenFigure ∷ flagsSet ∷ []
+infoRules = wrongLayout ∷ wrongLength ∷ noInfoBlock ∷ forbiddenFigure ∷ flagsSet ∷ []
 
 abbrev pub aloneRules : List OpenRule
 aloneRules = infoRules ++ (shortWork ∷ [])
@@ -125,6 +129,7 @@ orderOpen = aloneRules ++ mapRules
 
 -- what each rule tests, of an arena and the length of the work buffer
 abbrev pub testsOpen : Told → List ℕ → ℕ → OpenRule → Bool
+testsOpen t a room wrongLayout = not (distanceAllowed (t .distance))
 testsOpen t a room wrongLength = not (lengthAllowed (length a))
 testsOpen t a room noInfoBlock = eqb (length (infoBlockOf a)) 0
 testsOpen t a room forbiddenFigure = not (infoAllowed t (infoBlockOf a) (length a))

@@ -16,7 +16,7 @@ use Rattle.machine.specs.state.Flog.{mapBlock, newerHalf, newerWord, fre
 use Rattle.machine.specs.calls.Opening.{figuresIn, layoutIn, mends, pendingLanes, openOf}
 use Rattle.machine.specs.words.Records.{Idle}
 use Rattle.machine.specs.words.Valid.{EachOnce}
-use Rattle.machine.specs.claims.Opening.{OneCut, afterCuts}
+use Rattle.machine.specs.claims.Opening.{OneCut, afterCuts, CutsTold}
 use Rattle.machine.specs.calls.Reading.{readOf}
 use Rattle.machine.specs.calls.History.{runs, Call, read, start, step, write, State, reply, after, run, replies, SmallCalls, SmallEvents, justNumber, openedFrom}
 use Rattle.machine.specs.calls.Asides.{Happening, latestOf, callsOf, afterOne, AllHarmless, AllRefused, heardCalls}
@@ -118,7 +118,8 @@ pub record AsWithoutCuts (t : Told) (a work : List ℕ) (cuts : List OneCut) : T
 -- the power is cut when the first arena a₁ has become a and the book is b; the handle h that the list began with reads the first arena
 pub record AfterCut (t : Told) (a₁ : List ℕ) (h : Handle) (bytes : ℕ → List ℕ) (a : List ℕ) (b : List Entry) (work : List ℕ) : Type 0 where
   pub number : (openOf t a work) .number ≡ 0
-  -- the first arena's figures, and all lanes idle
+  -- the layout that it is told and the first handle had, the first arena's figures, and all lanes idle
+  pub layout : ((openOf t a work) .handle .distance ≡ t .distance) × (h .distance ≡ t .distance)
   pub figures : (openOf t a work) .handle .figures ≡ figuresIn a₁
   pub idle : AllIdle ((openOf t a work) .handle)
   -- a lane whose write's sequence word was stored has moved on: old is free, and the half that it wrote is the newer
@@ -141,7 +142,7 @@ pub record AfterCut (t : Told) (a₁ : List ℕ) (h : Handle) (bytes : ℕ → L
       → readOf ((openOf t a work) .arena) ((openOf t a work) .handle) s buffer ≡ readOf a₁ h s buffer
   -- mapped and free blocks are every block once
   pub once : EachOnce (layoutIn t a₁) (mapBlock (layoutIn t a₁) ((openOf t a work) .arena)) (λ l. (laneAt ((openOf t a work) .handle .lanes) l) .block .0)
-  pub cuts : (cuts : List OneCut) → AsWithoutCuts t a work cuts
+  pub cuts : (cuts : List OneCut) → CutsTold t cuts a → AsWithoutCuts t a work cuts
 
 -- no two writes share a byte: whatever their tallies, their stores are at different words
 abbrev pub ShareNone : Told → List ℕ → (ℕ → List ℕ) → List Entry → Type 0
@@ -176,6 +177,7 @@ pub record BesideList (t : Told) (x : State) (hs : List Happening) : Type 0 wher
   pub state : runs (afterOne t) x hs ≡ run x (callsOf hs)
   pub answers : heardCalls t x hs ≡ replies x (callsOf hs)
 
+-- in the layout in which the arena was opened, which is its handle's and that of every opening after a cut
 pub record DemandThree : Type 0 where
-  pub promised : Promises alone
-  pub beside : (x : State) (hs : List Happening) → AllHarmless alone x hs → AllRefused alone x hs → BesideList alone x hs
+  pub promised : (d : ℕ) → Promises (alone d)
+  pub beside : (d : ℕ) (x : State) (hs : List Happening) → AllHarmless (alone d) x hs → AllRefused (alone d) x hs → BesideList (alone d) x hs

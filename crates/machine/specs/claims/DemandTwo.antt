@@ -4,6 +4,7 @@ use mathlib.Core.List.{List}
 use Prim.Native.Nat.{ℕ, _+_, _≤_, _<_}
 use lib.ListN.{length, replicate}
 use Rattle.words.specs.Bytes.{Small}
+use Rattle.layout.specs.Claims.{Distance}
 use Rattle.layout.specs.Told.{alone}
 use Rattle.layout.specs.declared.Told.{Told}
 use Rattle.machine.specs.state.Handle.{Handle, laneAt}
@@ -44,11 +45,13 @@ pub record FollowsRow (keep : Keeping) (t : Told) (a work : List ℕ) (hs : List
   -- the figures stay those of the info block that was opened
   pub figures : figuresIn ((leaves t a work hs) .arena) ≡ figuresIn a
   pub handle : (leaves t a work hs) .handle .figures ≡ figuresIn a
+  -- and the layout that of the handle, in which the arena is opened again
+  pub layout : (leaves t a work hs) .handle .distance ≡ t .distance
   pub again : AllIdle ((leaves t a work hs) .handle) → (room : List ℕ) → (figuresIn a) .blocks ≤ length room
       → OpensAgain t (leaves t a work hs) (rowLeft keep t a work hs) room
 
 -- any arena that opens, and any history, whatever buffers its steps are handed; calls given another handle that store nothing, and
--- refused cut openings, may stand anywhere in it
+-- refused openings and cut openings in any layout, may stand anywhere in it
 abbrev pub FollowsWords : Told → Type 0
 FollowsWords t = (a work : List ℕ) (hs : List Happening) → Small a → SmallEvents (latestOf hs) → (openOf t a work) .number ≡ 0
     → AllHarmless t (openedFrom t a work) hs → FollowsRow wordByWord t a work hs
@@ -64,14 +67,15 @@ pub record HasZeroes (size : ℕ) (x : State) (s : ℕ) : Type 0 where
   pub row : (firstRow x) .sector s ≡ holds (replicate size 0)
   pub reads : (buffer : List ℕ) → length buffer ≡ size → readOf (x .arena) (x .handle) s buffer ≡ record { number = 0; buffer = replicate size 0 }
 
+-- in the layout in which the arena was opened; openings in a history are told the same, as its handle has it
 pub record DemandTwo : Type 0 where
   -- any buffers: the write in flight holds the words stored so far, each from the buffer of its own step
-  pub words : FollowsWords alone
+  pub words : (d : ℕ) → FollowsWords (alone d)
   -- one buffer for each write: the write in flight holds that buffer
-  pub follows : Follows alone
-  -- a made arena begins with zeroes, and reads them
-  pub zeroes : (o : Wanted) (a work : List ℕ) → Small a → Small (o .first) → Small (o .second) → (makeOf o a) .number ≡ 0
-      → o .sectors + o .lanes ≤ length work → (s : ℕ) → s < o .sectors → HasZeroes (o .size) (openedFrom alone ((makeOf o a) .arena) work) s
+  pub follows : (d : ℕ) → Follows (alone d)
+  -- a made arena begins with zeroes in either layout, and reads them
+  pub zeroes : (d : ℕ) → Distance d → (o : Wanted) (a work : List ℕ) → Small a → Small (o .first) → Small (o .second) → (makeOf o a) .number ≡ 0
+      → o .sectors + o .lanes ≤ length work → (s : ℕ) → s < o .sectors → HasZeroes (o .size) (openedFrom (alone d) ((makeOf o a) .arena) work) s
   -- for any bytes lent as an arena and any handle: what an accepted read, start, step and whole write do, byte by byte
   pub read : (a : List ℕ) (h : Handle) (s : ℕ) (buffer : List ℕ) → Small a → (readOf a h s buffer) .number ≡ 0
       → ReadTable a h s (readOf a h s buffer)

@@ -6,6 +6,7 @@ use Prim.Native.Nat.{ℕ, _+_}
 use lib.ListN.{length, replicate}
 use Rattle.words.specs.Word.{putWord}
 use Rattle.words.specs.Bytes.{Small}
+use Rattle.layout.specs.Claims.{Distance}
 use Rattle.layout.specs.Told.{alone}
 use Rattle.machine.specs.state.Handle.{Handle, noHandle}
 use Rattle.machine.specs.calls.Making.{Wanted, makeOf}
@@ -13,9 +14,10 @@ use Rattle.machine.specs.calls.Opening.{figuresIn, openOf}
 use Rattle.machine.specs.calls.Reading.{readOf}
 use Rattle.machine.specs.calls.Writing.{startOf, writeOf}
 use Rattle.machine.specs.calls.History.{Call, read, start, step, write, State, run, reply, called, opened, openedFrom, SmallEvents}
-use Rattle.machine.specs.calls.Asides.{Happening, latest, aside, shortened, latestOf, AllHarmless}
+use Rattle.machine.specs.calls.Asides.{Happening, latest, aside, tried, shortened, latestOf, AllHarmless}
 use Rattle.machine.specs.models.Row.{OneBuffer, firstRow}
 use Rattle.machine.specs.models.Book.{bookAfter}
+use Rattle.machine.specs.claims.Opening.{OneCut, CutsTold}
 use Rattle.machine.specs.claims.DemandThree.{Listed}
 
 -- 60 sectors of 512 bytes and 4 lanes in 49,152 bytes
@@ -28,8 +30,9 @@ exhibitFound = (makeOf exhibitWanted (replicate 49152 0)) .arena
 abbrev pub exhibitWork : List ℕ
 exhibitWork = replicate 64 0
 
-abbrev pub exhibitState : State
-exhibitState = openedFrom alone exhibitFound exhibitWork
+-- opened in a layout
+abbrev pub exhibitState : ℕ → State
+exhibitState d = openedFrom (alone d) exhibitFound exhibitWork
 
 -- the bytes of the write on each lane
 abbrev pub exhibitBytes : ℕ → List ℕ
@@ -47,21 +50,22 @@ exhibitCalls = interleaved ++ (start 0 9 ∷ read 7 (replicate 512 0) ∷ write 
 abbrev pub finishedCalls : List Call
 finishedCalls = interleaved ++ (step 0 (exhibitBytes 0) ∷ replicate 132 (step 1 (exhibitBytes 1)))
 
--- the first run as a history: a cut and an opening at its end, a call given another handle and a refused cut opening before it
-abbrev pub exhibitHistory : List Happening
-exhibitHistory = aside noHandle (step 0 (exhibitBytes 0)) ∷ shortened [] 1 ∷ map latest (map called exhibitCalls ++ (opened exhibitWork ∷ []))
+-- the first run as a history: a cut and an opening at its end; before it a call given another handle, a cut opening that lacks room, and an
+-- opening in a layout that there is not
+abbrev pub exhibitHistory : ℕ → List Happening
+exhibitHistory d = aside noHandle (step 0 (exhibitBytes 0)) ∷ shortened d [] 1 ∷ tried 48 exhibitWork ∷ map latest (map called exhibitCalls ++ (opened exhibitWork ∷ []))
 
 -- the same arena with map words of another driver: bit 31 alone at sector 5 (byte 36,884), bit 30 alone at sector 6 (byte 36,888)
 abbrev pub exhibitMarked : List ℕ
 exhibitMarked = putWord (putWord exhibitFound 9221 0x80000005) 9222 0x40000006
 
 -- it opens, sector 5 reads zeroes, and sector 6 is bad
-pub record ReadByFlags (a work : List ℕ) : Type 0 where
-  pub opens : (openOf alone a work) .number ≡ 0
+pub record ReadByFlags (d : ℕ) (a work : List ℕ) : Type 0 where
+  pub opens : (openOf (alone d) a work) .number ≡ 0
   pub zeroes : (buffer : List ℕ) → length buffer ≡ 512
-      → readOf ((openOf alone a work) .arena) ((openOf alone a work) .handle) 5 buffer ≡ record { number = 0; buffer = replicate 512 0 }
+      → readOf ((openOf (alone d) a work) .arena) ((openOf (alone d) a work) .handle) 5 buffer ≡ record { number = 0; buffer = replicate 512 0 }
   pub bad-sector : (buffer : List ℕ) → length buffer ≡ 512
-      → readOf ((openOf alone a work) .arena) ((openOf alone a work) .handle) 6 buffer ≡ record { number = 15; buffer = buffer }
+      → readOf ((openOf (alone d) a work) .arena) ((openOf (alone d) a work) .handle) 6 buffer ≡ record { number = 15; buffer = buffer }
 
 -- the same arena with 5 as the map word of sector 7 (byte 36,892), and with 1 as byte 63 of lane 3 (byte 41,215)
 abbrev pub exhibitSloppy : List ℕ
@@ -71,34 +75,44 @@ abbrev pub exhibitPadded : List ℕ
 exhibitPadded = putWord exhibitFound 10303 0x01000000
 
 -- neither opens; through a handle h of the arena as it was, sector 7 is refused while its word is sloppy, and padding is not looked at
-pub record RefusedSloppy (worded padded work : List ℕ) (h : Handle) : Type 0 where
-  pub word : (openOf alone worded work) .number ≡ 18
-  pub padding : (openOf alone padded work) .number ≡ 18
+pub record RefusedSloppy (d : ℕ) (worded padded work : List ℕ) (h : Handle) : Type 0 where
+  pub word : (openOf (alone d) worded work) .number ≡ 18
+  pub padding : (openOf (alone d) padded work) .number ≡ 18
   pub read : (buffer : List ℕ) → length buffer ≡ 512 → (readOf worded h 7 buffer) .number ≡ 18
   pub start : (startOf worded h 0 7) .number ≡ 18
   pub write : (buffer : List ℕ) → length buffer ≡ 512 → (writeOf worded h 0 7 buffer) .number ≡ 18
   pub padded-read : (buffer : List ℕ) → length buffer ≡ 512 → (readOf padded h 7 buffer) .number ≡ 0
 
-pub record Exhibited : Type 0 where
+-- cut openings between that cut and an opening: in the handle's layout, and in one that there is not
+abbrev pub exhibitCuts : ℕ → List OneCut
+exhibitCuts d = record { layout = d; work = exhibitWork; stores = 0 } ∷ record { layout = 48; work = exhibitWork; stores = 1 } ∷ []
+
+pub record ExhibitedIn (d : ℕ) : Type 0 where
   -- the premises of demand 2
   pub small : Small exhibitFound
-  pub small-events : SmallEvents (latestOf exhibitHistory)
-  pub opens : (openOf alone exhibitFound exhibitWork) .number ≡ 0
-  pub one-buffer : OneBuffer (figuresIn exhibitFound) (firstRow exhibitState) (latestOf exhibitHistory)
-  pub harmless : AllHarmless alone exhibitState exhibitHistory
+  pub small-events : SmallEvents (latestOf (exhibitHistory d))
+  pub opens : (openOf (alone d) exhibitFound exhibitWork) .number ≡ 0
+  pub one-buffer : OneBuffer (figuresIn exhibitFound) (firstRow (exhibitState d)) (latestOf (exhibitHistory d))
+  pub harmless : AllHarmless (alone d) (exhibitState d) (exhibitHistory d)
   -- the premise of demand 3, after a history that is not empty, and with all writes finished too
-  pub listed : Listed alone exhibitState exhibitCalls exhibitBytes
+  pub listed : Listed (alone d) (exhibitState d) exhibitCalls exhibitBytes
   pub some-history : length (listed .ready .history) ≡ 2
-  pub finished : Listed alone exhibitState finishedCalls exhibitBytes
+  pub finished : Listed (alone d) (exhibitState d) finishedCalls exhibitBytes
   -- what the runs come to
-  pub refused : (reply (run exhibitState interleaved) (start 0 9)) .number ≡ 12
-  pub tallies : bookAfter alone (exhibitState .arena) [] exhibitCalls
+  pub refused : (reply (run (exhibitState d) interleaved) (start 0 9)) .number ≡ 12
+  pub tallies : bookAfter (alone d) (exhibitState d .arena) [] exhibitCalls
       ≡ record { lane = 2; sector = 10; tally = 133 } ∷ record { lane = 1; sector = 8; tally = 1 } ∷ record { lane = 0; sector = 7; tally = 132 } ∷ []
-  pub all-finished : bookAfter alone (exhibitState .arena) [] finishedCalls
+  pub all-finished : bookAfter (alone d) (exhibitState d .arena) [] finishedCalls
       ≡ record { lane = 1; sector = 8; tally = 133 } ∷ record { lane = 0; sector = 7; tally = 133 } ∷ []
   -- cut where one lacks only its map word and opened, one write is mended
-  pub mended : (openOf alone ((run exhibitState exhibitCalls) .arena) exhibitWork) .mended ≡ 1
+  pub mended : (openOf (alone d) ((run (exhibitState d) exhibitCalls) .arena) exhibitWork) .mended ≡ 1
+  -- the premise of cut openings
+  pub cuts : CutsTold (alone d) (exhibitCuts d) ((run (exhibitState d) exhibitCalls) .arena)
   -- flags that no call of ours stores
-  pub marked : ReadByFlags exhibitMarked exhibitWork
+  pub marked : ReadByFlags d exhibitMarked exhibitWork
   -- what 18 refuses
-  pub sloppy : RefusedSloppy exhibitSloppy exhibitPadded exhibitWork (exhibitState .handle)
+  pub sloppy : RefusedSloppy d exhibitSloppy exhibitPadded exhibitWork (exhibitState d .handle)
+
+-- all of it in either layout
+abbrev pub Exhibited : Type 0
+Exhibited = (d : ℕ) → Distance d → ExhibitedIn d

@@ -16,7 +16,7 @@ use Rattle.machine.specs.calls.Making.{Wanted, wrongSizes, wrongTotal, w
 use Rattle.machine.specs.calls.Opening.{figuresIn, openOf}
 use Rattle.machine.specs.words.InBytes.{mapWordIn}
 use Rattle.machine.specs.words.Records.{Idle}
-use Rattle.layout.specs.Claims.{Length, Sizes}
+use Rattle.layout.specs.Claims.{Length, Sizes, Distance}
 use Rattle.machine.specs.words.Valid.{Valid, AnswersMake}
 
 -- what making accepts: allowed S, E and lanes, a length that is allowed and the figure worked out, and identifiers of 16 bytes
@@ -51,18 +51,22 @@ pub record FreshBytes (o : Wanted) (f : Figures) (a m : List ℕ) : Type 0 where
   -- and from its end to the copy zero
   pub after-flog : (j : ℕ) → f .flogoff + 64 * o .lanes ≤ j → j < f .copyoff → getD m j 0 ≡ 0
 
+-- a made arena m in a layout: it is valid, and opens with none mended and no byte changed
+pub record FreshOpens (d : ℕ) (o : Wanted) (m : List ℕ) : Type 0 where
+  pub valid : Valid (alone d) m
+  pub number : (work : List ℕ) → o .sectors + o .lanes ≤ length work → (openOf (alone d) m work) .number ≡ 0
+  pub mended : (work : List ℕ) → (openOf (alone d) m work) .mended ≡ 0
+  pub arena : (work : List ℕ) → (openOf (alone d) m work) .arena ≡ m
+  -- lane l's free block is E + l; its second half and sequence 2 come next
+  pub lanes : (work : List ℕ) (l : ℕ) → o .sectors + o .lanes ≤ length work → l < o .lanes
+      → Idle (o .sectors + l) 1 2 (laneAt ((openOf (alone d) m work) .handle .lanes) l)
+
 -- what holds of a made arena
 pub record FreshArena (o : Wanted) (a : List ℕ) : Type 0 where
   pub bytes : FreshBytes o (freshFigures (o .size) (o .sectors) (o .lanes)) a ((makeOf o a) .arena)
-  pub valid : Valid alone ((makeOf o a) .arena)
   pub figures : figuresIn ((makeOf o a) .arena) ≡ freshFigures (o .size) (o .sectors) (o .lanes)
-  -- it opens, with none mended and no byte changed
-  pub number : (work : List ℕ) → o .sectors + o .lanes ≤ length work → (openOf alone ((makeOf o a) .arena) work) .number ≡ 0
-  pub mended : (work : List ℕ) → (openOf alone ((makeOf o a) .arena) work) .mended ≡ 0
-  pub arena : (work : List ℕ) → (openOf alone ((makeOf o a) .arena) work) .arena ≡ (makeOf o a) .arena
-  -- lane l's free block is E + l; its second half and sequence 2 come next
-  pub lanes : (work : List ℕ) (l : ℕ) → o .sectors + o .lanes ≤ length work → l < o .lanes
-      → Idle (o .sectors + l) 1 2 (laneAt ((openOf alone ((makeOf o a) .arena) work) .handle .lanes) l)
+  -- it opens in both layouts
+  pub opens : (d : ℕ) → Distance d → FreshOpens d o ((makeOf o a) .arena)
   -- every sector's map word is zero
   pub map : (s : ℕ) → s < o .sectors → mapWordIn (freshFigures (o .size) (o .sectors) (o .lanes)) ((makeOf o a) .arena) s ≡ 0
 

@@ -27,10 +27,10 @@ pub record PackingClaim : Type 0 where
   pub same : (p : packed.Handle) → repacked p (unpacked p) ≡ p
   pub calls : (a : List ℕ) (p : packed.Handle) (c : Call) → p .figures .lanes ≤ length (p .lanes) → PackedAfter a p c
   -- the array of an opening stands for its handle; that of a refused one is all zeroes
-  pub opened : (a work : List ℕ) → (openOf alone a work) .number ≡ 0
-      → unpacked (packedUp ((openOf alone a work) .handle)) ≡ (openOf alone a work) .handle
-  pub refused : (a work : List ℕ) → (openOf alone a work) .number ≢ 0 → ZeroPacked (packedUp ((openOf alone a work) .handle))
+  pub opened : (d : ℕ) (a work : List ℕ) → (openOf (alone d) a work) .number ≡ 0
+      → unpacked (packedUp ((openOf (alone d) a work) .handle)) ≡ (openOf (alone d) a work) .handle
+  pub refused : (d : ℕ) (a work : List ℕ) → (openOf (alone d) a work) .number ≢ 0 → ZeroPacked (packedUp ((openOf (alone d) a work) .handle))
   pub none : ZeroPacked zeroHandle
   -- records past the lanes are zero
-  pub zero : (a work : List ℕ) (l : ℕ) → (openOf alone a work) .handle .figures .lanes ≤ l
-      → Idle 0 0 0 (laneAt ((packedUp ((openOf alone a work) .handle)) .lanes) l)
+  pub zero : (d : ℕ) (a work : List ℕ) (l : ℕ) → (openOf (alone d) a work) .handle .figures .lanes ≤ l
+      → Idle 0 0 0 (laneAt ((packedUp ((openOf (alone d) a work) .handle)) .lanes) l)

@@ -25,6 +25,7 @@ use Rattle.machine.specs.calls.Order.{
 }
 use Rattle.machine.specs.calls.Opening.{
   OpenRule,
+  wrongLayout,
   wrongLength,
   noInfoBlock,
   forbiddenFigure,
@@ -186,6 +187,7 @@ reopened f row = record { sector = settled f row (f .lanes); lane = λ l. idle }
 
 -- what each rule of an opening tests in the row: it is refused only for want of room
 abbrev pub rowOpenTests : Figures → ℕ → OpenRule → Bool
+rowOpenTests f room wrongLayout = false
 rowOpenTests f room wrongLength = false
 rowOpenTests f room noInfoBlock = false
 rowOpenTests f room forbiddenFigure = false

@@ -1,6 +1,5 @@
 -- The handle of an opened arena, and rule 16.
-use mathlib.Core.Bool.{Bool, true, _&&_}
-use mathlib.Core.Path.{_≡_}
+use mathlib.Core.Bool.{Bool, _&&_}
 use mathlib.Core.List.{List, []}
 use Prim.Native.Nat.{ℕ}
 use lib.Dec.{eqb}
@@ -9,7 +8,7 @@ use Rattle.format.specs.Tests.{every}
 use Rattle.layout.specs.Figures.{lengthAllowed, figuresAllowed}
 use Rattle.layout.specs.Place.{Layout, layoutOf}
 use Rattle.layout.specs.declared.Figures.{Figures}
-use Rattle.layout.specs.declared.Told.{Told}
+use Rattle.layout.specs.Told.{distanceAllowed}
 use Rattle.machine.specs.declared.lane.Lane.{Lane}
 use Rattle.machine.specs.state.Lane.{noLane, laneAllowed}
 
@@ -38,15 +37,8 @@ laneAt lanes l = getD lanes l noLane
 abbrev pub withLane : Handle → ℕ → Lane → Handle
 withLane h l r = record { length = h .length; distance = h .distance; figures = h .figures; lanes = set (h .lanes) l r }
 
--- the distance between a lane's halves that an arena may have
-abbrev pub distanceAllowed : ℕ → Bool
-distanceAllowed d = eqb d 16
-
--- what an opening is told is in order
-abbrev pub ToldOk : Told → Type 0
-ToldOk t = distanceAllowed (t .distance) ≡ true
-
--- rule 16 does not apply: the figures are allowed and match the slice's length, which is allowed, and the lanes' records are in range
+-- rule 16 does not apply: the layout is allowed, the figures are and match the slice's length, which is allowed, and the lanes' records
+-- are in range
 unfoldable pub handleAllowed : Handle → ℕ → Bool
 handleAllowed h n =
     lengthAllowed n && (eqb (h .length) n && (distanceAllowed (h .distance) && (figuresAllowed (h .figures) n

@@ -59,6 +59,7 @@ pub record ZeroHandle (h : Handle) : Type 0 where
 -- the same as the code keeps it, with an array of 16 records
 pub record ZeroPacked (p : packed.Handle) : Type 0 where
   pub total : p .length ≡ 0
+  pub distance : p .distance ≡ 0
   pub figures : ZeroFigures (p .figures)
   pub records : length (p .lanes) ≡ 16
   pub lanes : (l : ℕ) → Idle 0 0 0 (laneAt (p .lanes) l)

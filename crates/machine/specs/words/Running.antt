@@ -27,7 +27,7 @@ use Rattle.machine.specs.calls.Order.{
 }
 use Rattle.machine.specs.state.Handle.{Handle, laneAt, laidOut}
 use Rattle.machine.specs.state.Flog.{mapWord}
-use Rattle.layout.specs.Claims.{Length}
+use Rattle.layout.specs.Claims.{Length, Distance}
 
 -- a lane's record in range, idle or not
 pub record LaneOk (g : Layout) (r : Lane) : Type 0 where
@@ -40,11 +40,12 @@ pub record LaneOk (g : Layout) (r : Lane) : Type 0 where
   pub sector : r .sector .0 < g .E
   pub made : r .made < g .W + 5
 
--- rule 16 does not apply: the slice's length is allowed and the handle's, its figures are allowed, and every lane's record is in range
+-- rule 16 does not apply: the slice's length is allowed and the handle's, its layout is 16 or 32, its figures are allowed, and every lane's
+-- record is in range
 pub record HandleOk (h : Handle) (n : ℕ) : Type 0 where
   pub size : Length n
   pub match : h .length ≡ n
-  pub distance : h .distance ≡ 16
+  pub distance : Distance (h .distance)
   pub figures : Allowed (h .figures) n
   pub lanes : (l : ℕ) → l < h .figures .lanes → LaneOk (laidOut h) (laneAt (h .lanes) l)
 

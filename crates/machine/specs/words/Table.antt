@@ -17,15 +17,15 @@ use Rattle.machine.specs.calls.Writing.{Outcome, startOf, stepOf}
 use Rattle.machine.specs.words.Records.{Idle, Started, OneMore}
 use Rattle.machine.specs.words.InBytes.{mapWordIn}
 
--- ---- where store k of a write begins, and its word
+-- ---- where store k of a write begins, and its word; the halves of a lane start d bytes apart
 
 -- sector, old, new and sequence of the next half, then the map word
-abbrev pub lastByte : Figures → ℕ → Lane → ℕ → ℕ
-lastByte f l r zero = f .flogoff + 64 * l + 16 * r .half
-lastByte f l r (suc zero) = f .flogoff + 64 * l + 16 * r .half + 4
-lastByte f l r (suc (suc zero)) = f .flogoff + 64 * l + 16 * r .half + 8
-lastByte f l r (suc (suc (suc zero))) = f .flogoff + 64 * l + 16 * r .half + 12
-lastByte f l r (suc (suc (suc (suc k)))) = f .mapoff + 4 * r .sector .0
+abbrev pub lastByte : ℕ → Figures → ℕ → Lane → ℕ → ℕ
+lastByte d f l r zero = f .flogoff + 64 * l + d * r .half
+lastByte d f l r (suc zero) = f .flogoff + 64 * l + d * r .half + 4
+lastByte d f l r (suc (suc zero)) = f .flogoff + 64 * l + d * r .half + 8
+lastByte d f l r (suc (suc (suc zero))) = f .flogoff + 64 * l + d * r .half + 12
+lastByte d f l r (suc (suc (suc (suc k)))) = f .mapoff + 4 * r .sector .0
 
 abbrev pub lastWord : Lane → ℕ → ℕ
 lastWord r zero = r .sector .0
@@ -35,8 +35,8 @@ lastWord r (suc (suc (suc zero))) = r .sequence .0
 lastWord r (suc (suc (suc (suc k)))) = 3221225472 + r .block .0
 
 -- the S/4 data words go into new, in order, and then the others
-unfoldable pub storeByte : Figures → ℕ → Lane → ℕ → ℕ
-storeByte f l r k = cond (ltb k (f .size / 4)) (f .dataoff + r .block .0 * f .internal + 4 * k) (lastByte f l r (k - f .size / 4))
+unfoldable pub storeByte : ℕ → Figures → ℕ → Lane → ℕ → ℕ
+storeByte d f l r k = cond (ltb k (f .size / 4)) (f .dataoff + r .block .0 * f .internal + 4 * k) (lastByte d f l r (k - f .size / 4))
 
 unfoldable pub storeWord : Figures → Lane → List ℕ → ℕ → ℕ
 storeWord f r buffer k = cond (ltb k (f .size / 4)) (byteWord buffer (4 * k)) (lastWord r (k - f .size / 4))
@@ -59,8 +59,8 @@ pub record OneRecord (h after : Handle) (l : ℕ) (P : Lane → Type 0) : Type 0
 
 -- an accepted step: store k, where k stores were made before, of one aligned word
 pub record StepTable (a : List ℕ) (h : Handle) (l : ℕ) (buffer : List ℕ) (r : Lane) (o : Outcome) : Type 0 where
-  pub store : OneWord a (o .arena) (storeByte (h .figures) l r (r .made)) (storeWord (h .figures) r buffer (r .made))
-  pub aligned : storeByte (h .figures) l r (r .made) % 4 ≡ 0
+  pub store : OneWord a (o .arena) (storeByte (h .distance) (h .figures) l r (r .made)) (storeWord (h .figures) r buffer (r .made))
+  pub aligned : storeByte (h .distance) (h .figures) l r (r .made) % 4 ≡ 0
   -- one more store made
   pub more : r .made + 1 < h .figures .size / 4 + 5 → OneRecord h (o .handle) l (OneMore r)
   -- after the last the lane is idle, old is its free block, and its next half and sequence move on

@@ -9,7 +9,7 @@ use lib.ListN.{length, getD, take, drop}
 use Rattle.words.specs.Bytes.{byteWord}
 use Rattle.format.specs.Claims.{BadWord, SloppyWord}
 use Rattle.layout.specs.Figures.{Allowed, freshLength}
-use Rattle.layout.specs.Claims.{Length, Sizes, InPadding}
+use Rattle.layout.specs.Claims.{Length, Sizes, Distance, InPadding}
 use Rattle.layout.specs.Place.{Layout}
 use Rattle.layout.specs.declared.Figures.{Figures}
 use Rattle.layout.specs.declared.Told.{Told}
@@ -22,6 +22,7 @@ use Rattle.machine.specs.calls.Opening.{
   figuresIn,
   layoutIn,
   OpenRule,
+  wrongLayout,
   wrongLength,
   noInfoBlock,
   forbiddenFigure,
@@ -91,8 +92,9 @@ pub record Settled (g : Layout) (a : List ℕ) : Type 0 where
   pub mended : (s : ℕ) → s < g .E → MendedBlock g a s (mapped s)
   pub once : EachOnce g mapped (freeOf g a)
 
--- an arena that passes 1 to 4, 6, 7 and 18 and is settled (5 is about the work buffer)
+-- an arena that, in the layout told, passes 16, 1 to 4, 6, 7 and 18 and is settled (5 is about the work buffer)
 pub record Valid (t : Told) (a : List ℕ) : Type 0 where
+  pub layout : Distance (t .distance)
   pub size : Length (length a)
   pub info : Sound (infoBlockOf a)
   pub figures : InfoOk (t .next) (infoBlockOf a) (length a)
@@ -106,6 +108,7 @@ pub record Valid (t : Told) (a : List ℕ) : Type 0 where
 
 -- each rule of opening, of an arena and the length of the work buffer
 abbrev pub HoldsOpen : Told → List ℕ → ℕ → OpenRule → Type 0
+HoldsOpen t a room wrongLayout = Distance (t .distance) → ⊥
 HoldsOpen t a room wrongLength = Length (length a) → ⊥
 HoldsOpen t a room noInfoBlock = (Sound (take 4096 a) → ⊥) × (Sound (drop (length a - 4096) a) → ⊥)
 HoldsOpen t a room forbiddenFigure = InfoOk (t .next) (infoBlockOf a) (length a) → ⊥

@@ -5,7 +5,6 @@ use mathlib.Core.Bool.{not}
 use borrow.Author.Tests.{not-false, le-leb, lt-leb, eq-eqb, ne-eqb}
 use Rattle.format.specs.MapWord.{flagsOf, readingOf, badWord, sloppyWord}
 use Rattle.format.proofs.MapWord.{fault-bad, fault-in, fault-sloppy, fault-clean}
-use Rattle.layout.specs.Told.{alone}
 use Rattle.lanes.proofs.Lanes.{map-fit}
 use Rattle.machine.proofs.rules.Rules.{stop, pass, through}
 use Rattle.machine.proofs.rules.Running.{call-walk}
@@ -60,7 +59,7 @@ returns-4 c =
     let at-if1 = at-if2 .before .before .before .before in
     let at-handle-allowed = at-if1 .before in
     let e = ap not (sym (at-handle-allowed .handle-allowed .ensures)) ∙ at-if1 .if1 .left in
-    let m = at-map-word .map-word .ensures (alone .distance) in
+    let m = at-map-word .map-word .ensures _ in
     let blocks = at-handle-allowed .before .before .before .args .h .figures .blocks in
     let word = at-map-word .map-word .result in
     let bad = ap (badWord blocks) (sym m) in
@@ -77,7 +76,7 @@ returns-5 c =
     let at-if1 = at-if2 .before .before .before .before in
     let at-handle-allowed = at-if1 .before in
     let e = ap not (sym (at-handle-allowed .handle-allowed .ensures)) ∙ at-if1 .if1 .left in
-    let m = at-map-word .map-word .ensures (alone .distance) in
+    let m = at-map-word .map-word .ensures _ in
     let blocks = at-handle-allowed .before .before .before .args .h .figures .blocks in
     let word = at-map-word .map-word .result in
     let bad = ap (badWord blocks) (sym m) in
@@ -100,7 +99,7 @@ returns-6 c =
     let at-if1 = at-if2 .before .before .before .before in
     let at-handle-allowed = at-if1 .before in
     let e = ap not (sym (at-handle-allowed .handle-allowed .ensures)) ∙ at-if1 .if1 .left in
-    let m = at-map-word .map-word .ensures (alone .distance) in
+    let m = at-map-word .map-word .ensures _ in
     let blocks = at-handle-allowed .before .before .before .args .h .figures .blocks in
     let word = at-map-word .map-word .result in
     let bad = ap (badWord blocks) (sym m) in
@@ -123,7 +122,7 @@ returns-7 c =
     let at-if1 = at-if2 .before .before .before .before in
     let at-handle-allowed = at-if1 .before in
     let e = ap not (sym (at-handle-allowed .handle-allowed .ensures)) ∙ at-if1 .if1 .left in
-    let m = at-map-word .map-word .ensures (alone .distance) in
+    let m = at-map-word .map-word .ensures _ in
     let blocks = at-handle-allowed .before .before .before .args .h .figures .blocks in
     let word = at-map-word .map-word .result in
     let bad = ap (badWord blocks) (sym m) in

@@ -6,7 +6,6 @@ use native.Mathlib.Omega.{arith}
 use borrow.Author.Tests.{not-true, not-false}
 use Rattle.format.specs.MapWord.{flagsOf, readingOf, blockOf}
 use Rattle.layout.specs.Place.{layoutOf, inData, at}
-use Rattle.layout.specs.Told.{alone}
 use Rattle.lanes.proofs.Lanes.{map-fit}
 use Rattle.machine.proofs.calls.Running.{handle-fit}
 use Rattle.reading.proofs.Laws.{refused, known, inside, gives-bytes, gives-zeroes}
@@ -63,7 +62,7 @@ copy-words-requires c κs =
     let t = sym (at-is-done .is-done .ensures) ∙ not-false _ (at-if1 .if1 .left) in
     let k = known _ _ _ _ (j .result) (j .ensures) t in
     let start = at-judge-read .before .before .before .before in
-    let d = alone .distance in
+    let d = start .args .h .distance in
     let m = at-map-word .map-word .ensures d in
     let b = at-block-of .block-of .ensures ∙ ap (blockOf (start .args .sector .0)) m in
     let p = at-data-place .data-place .ensures d ∙ ap (λ (n : ℕ). at (layoutOf d (start .args .h .figures)) (inData n 0)) b in
@@ -84,7 +83,7 @@ returns-2 c =
     let j = at-judge-read .judge-read in
     let t = sym (at-is-done .is-done .ensures) ∙ not-false _ (at-if1 .if1 .left) in
     let start = at-judge-read .before .before .before .before in
-    let d = alone .distance in
+    let d = start .args .h .distance in
     let m = at-map-word .map-word .ensures d in
     let b = at-block-of .block-of .ensures ∙ ap (blockOf (start .args .sector .0)) m in
     let p = at-data-place .data-place .ensures d ∙ ap (λ (n : ℕ). at (layoutOf d (start .args .h .figures)) (inData n 0)) b in
@@ -119,7 +118,7 @@ returns-3 c =
     let at-judge-read = at-is-done .before in
     let j = at-judge-read .judge-read in
     let t = sym (at-is-done .is-done .ensures) ∙ not-false _ (at-if1 .if1 .left) in
-    let m = at-map-word .map-word .ensures (alone .distance) in
+    let m = at-map-word .map-word .ensures _ in
     let w = ap (λ x. readingOf (flagsOf x)) (sym m) ∙ sym (at-reading-of .reading-of .ensures) in
     let at-slice-known = at-judge-read .before .before in
     gives-zeroes _ _ _ _ (j .result) (j .ensures) t (λ i. at-slice-known .slice-known .given i .fits)

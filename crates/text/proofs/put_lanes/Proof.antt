@@ -22,7 +22,7 @@ abbrev μ-loop : tie.MeasureT-loop
 
 loop-holds : tie.Need-loop-holds Inv-loop μ-loop
 loop-holds c =
-    let n = unmapped _ (c .before .args .t3 .lanes) 16 (c .before .good .1 .1 .0 .1 .1 .1 .1 .0 .1 .0 .1) in
+    let n = unmapped _ (c .before .args .t3 .lanes) 16 (c .before .good .1 .1 .0 .1 .1 .1 .1 .1 .0 .1 .0 .1) in
     (search needs, search needs, n, lanes-none _ _ _)
 
 cast-lane : tie.Need-cast-lane Inv-loop μ-loop

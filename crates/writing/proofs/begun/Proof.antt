@@ -1,6 +1,5 @@
 -- `writing::begun` meets its contract: the lane's record is the array's, and the map names the old block.
 use mathlib.Core.Path.{_∙_}
-use Rattle.layout.specs.Told.{alone}
 use Rattle.lanes.proofs.Lanes.{map-fit}
 use Rattle.machine.proofs.calls.Rule16.{lane-taken}
 use borrow.Author.Needs.{needs}
@@ -26,7 +25,7 @@ returns : tie.Need-returns
 returns c =
     let s = c .before .before .before .before .before .before in
     let f = lane-taken (s .args .t2 .lanes) (s .args .t2 .figures .lanes) (s .args .lane .0) (s .pre .1 .0) in
-    c .start .ensures ∙ rw (c .before .map-block .ensures (alone .distance), f)
+    c .start .ensures ∙ rw (c .before .map-block .ensures (s .args .t2 .distance), f)
 
 pub begun-spec : {M : Type 1} → statement M
 begun-spec =

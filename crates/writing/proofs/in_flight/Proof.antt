@@ -24,7 +24,7 @@ cast-n c = search needs
 loop-holds : tie.Need-loop-holds Inv-loop μ-loop
 loop-holds c =
     let s = c .before .before in
-    let l = unmapped _ (s .args .t1 .lanes) 16 (s .good .0 .1 .1 .1 .1 .0 .1 .0 .1) in
+    let l = unmapped _ (s .args .t1 .lanes) 16 (s .good .0 .1 .1 .1 .1 .1 .0 .1 .0 .1) in
     (search needs, (refl, (flight-zero (s .args .t1 .lanes) (s .args .t1 .figures .lanes) (s .args .sector .0), l)))
 
 mul-r : tie.Need-mul-r Inv-loop μ-loop

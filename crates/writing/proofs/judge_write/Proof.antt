@@ -5,7 +5,6 @@ use native.Mathlib.Omega.{arith}
 use borrow.Author.Tests.{not-false, le-leb, lt-leb}
 use Rattle.format.specs.MapWord.{badWord, sloppyWord}
 use Rattle.format.proofs.MapWord.{fault-bad, fault-in, fault-sloppy, fault-clean}
-use Rattle.layout.specs.Told.{alone}
 use Rattle.lanes.proofs.Lanes.{map-fit}
 use Rattle.machine.proofs.rules.Rules.{stop, pass, through}
 use Rattle.machine.proofs.rules.Running.{call-walk}
@@ -139,7 +138,7 @@ returns-7 c =
     let b = r (e3 .before .is-busy .ensures) (e3 .if3 .left) in
     let k = lt-leb _ _ (e2 .if2 .left) in
     let g = sym (e6 .before .in-flight .ensures) ∙ e6 .if6 .left in
-    let m = at-map-word .map-word .ensures (alone .distance) in
+    let m = at-map-word .map-word .ensures _ in
     let blocks = z .args .t2 .figures .blocks in
     let word = at-map-word .map-word .result in
     let bad = ap (badWord blocks) (sym m) in
@@ -165,7 +164,7 @@ returns-8 c =
     let b = r (e3 .before .is-busy .ensures) (e3 .if3 .left) in
     let k = lt-leb _ _ (e2 .if2 .left) in
     let g = sym (e6 .before .in-flight .ensures) ∙ e6 .if6 .left in
-    let m = at-map-word .map-word .ensures (alone .distance) in
+    let m = at-map-word .map-word .ensures _ in
     let blocks = z .args .t2 .figures .blocks in
     let word = at-map-word .map-word .result in
     let bad = ap (badWord blocks) (sym m) in
@@ -193,7 +192,7 @@ returns-9 c =
     let b = r (e3 .before .is-busy .ensures) (e3 .if3 .left) in
     let k = lt-leb _ _ (e2 .if2 .left) in
     let g = sym (e6 .before .in-flight .ensures) ∙ e6 .if6 .left in
-    let m = at-map-word .map-word .ensures (alone .distance) in
+    let m = at-map-word .map-word .ensures _ in
     let blocks = z .args .t2 .figures .blocks in
     let word = at-map-word .map-word .result in
     let bad = ap (badWord blocks) (sym m) in

@@ -3,7 +3,6 @@
 use mathlib.Core.Path.{sym, _∙_}
 use native.Mathlib.Omega.{arith}
 use borrow.Author.Tests.{not-true, not-false}
-use Rattle.layout.specs.Told.{alone}
 use Rattle.machine.proofs.calls.Rule16.{lane-taken}
 use Rattle.machine.proofs.calls.Running.{handle-fit}
 use Rattle.writing.proofs.Rules.{next-fit, step-refused, step-done, step-passed}
@@ -38,21 +37,18 @@ element-copy-out-r c =
     let p = step-passed _ _ _ _ _ (d .before .judge-step .ensures) (sym (d .is-done .ensures) ∙ not-false _ (e .if1 .left)) in
     omega (arith, handle-fit _ _ (p .handle) .few, p .lane)
 
-alone-requires : tie.Need-alone-requires
-alone-requires c κs = search needs
-
 put-store-requires : tie.Need-put-store-requires
 put-store-requires c κs =
-    let e = c .before .before .before .before .before in
+    let e = c .before .before .before .before in
     let d = e .before in
     let z = d .before .before .before .before .before in
     let p = step-passed _ _ _ _ _ (d .before .judge-step .ensures) (sym (d .is-done .ensures) ∙ not-false _ (e .if1 .left)) in
     let r = lane-taken (z .args .t2 .lanes) (z .args .t2 .figures .lanes) (z .args .lane .0) (p .lane) in
-    (rw (c .alone .ensures) (handle-fit _ _ (p .handle)), next-fit _ _ (p .handle) _ (p .lane) _ r, p .size)
+    (handle-fit _ _ (p .handle), next-fit _ _ (p .handle) _ (p .lane) _ r, p .size)
 
 moved-requires : tie.Need-moved-requires
 moved-requires c κs =
-    let e = c .before .before .before .before .before .before .before .before in
+    let e = c .before .before .before .before .before .before .before in
     let d = e .before in
     let z = d .before .before .before .before .before in
     let p = step-passed _ _ _ _ _ (d .before .judge-step .ensures) (sym (d .is-done .ensures) ∙ not-false _ (e .if1 .left)) in
@@ -62,7 +58,7 @@ moved-requires c κs =
 
 with-lane-requires : tie.Need-with-lane-requires
 with-lane-requires c κs =
-    let e = c .before .before .before .before .before .before .before .before .before in
+    let e = c .before .before .before .before .before .before .before .before in
     let d = e .before in
     let p = step-passed _ _ _ _ _ (d .before .judge-step .ensures) (sym (d .is-done .ensures) ∙ not-false _ (e .if1 .left)) in
     (p .lane, handle-fit _ _ (p .handle) .few)
@@ -73,13 +69,13 @@ same-length-2 c = search needs
 returns-2 : tie.Need-returns-2
 returns-2 c =
     let s = c .before .before .before .before in
-    let e = s .before .before .before .before .before .before in
+    let e = s .before .before .before .before .before in
     let d = e .before in
     let z = d .before .before .before .before .before in
     let t = sym (d .is-done .ensures) ∙ not-false _ (e .if1 .left) in
     let p = step-passed _ _ _ _ _ (d .before .judge-step .ensures) t in
     let r = lane-taken (z .args .t2 .lanes) (z .args .t2 .figures .lanes) (z .args .lane .0) (p .lane) in
-    rw (c .with-lane .ensures, c .before .moved .ensures (alone .distance), s .put-store .ensures, s .before .alone .ensures)
+    rw (c .with-lane .ensures, c .before .moved .ensures (z .args .t2 .distance), s .put-store .ensures)
     (step-done _ _ _ _ _ (d .before .judge-step .ensures) t _ r)
 
 pub step-spec : {M : Type 1} → statement M
@@ -93,7 +89,6 @@ step-spec =
     cast-i
     mul-r
     element-copy-out-r
-    alone-requires
     put-store-requires
     moved-requires
     with-lane-requires

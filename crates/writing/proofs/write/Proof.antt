@@ -36,12 +36,9 @@ begun-requires c κs =
     let q = write-found-start _ _ _ _ (z .args .buffer .now) _ (d .before .judge-write .ensures _ refl) t in
     (handle-fit _ _ (q .handle), (q .lane, q .sector))
 
-alone-requires : tie.Need-alone-requires
-alone-requires c κs = search needs
-
 put-stores-requires : tie.Need-put-stores-requires
 put-stores-requires c κs =
-    let b = c .before .before in
+    let b = c .before in
     let e = b .before .before in
     let d = e .before in
     let z = d .before .before .before .before .before .before in
@@ -49,11 +46,11 @@ put-stores-requires c κs =
     let j = d .before .judge-write .ensures (z .args .buffer .now) refl in
     let f = handle-fit _ _ (write-found-start _ _ _ _ (z .args .buffer .now) _ j t .handle) in
     let r = begun-fit _ _ _ _ (z .args .buffer .now) _ j t in
-    (rw (c .alone .ensures) f, rw (b .begun .ensures) r, write-found-size _ _ _ _ (z .args .buffer .now) _ j t)
+    (f, rw (b .begun .ensures) r, write-found-size _ _ _ _ (z .args .buffer .now) _ j t)
 
 finished-requires : tie.Need-finished-requires
 finished-requires c κs =
-    let b = c .before .before .before .before .before in
+    let b = c .before .before .before .before in
     let e = b .before .before in
     let d = e .before in
     let z = d .before .before .before .before .before .before in
@@ -63,7 +60,7 @@ finished-requires c κs =
 
 with-lane-requires : tie.Need-with-lane-requires
 with-lane-requires c κs =
-    let e = c .before .before .before .before .before .before .before .before in
+    let e = c .before .before .before .before .before .before .before in
     let d = e .before in
     let z = d .before .before .before .before .before .before in
     let t = sym (d .is-done .ensures) ∙ not-false _ (e .if1 .left) in
@@ -76,13 +73,13 @@ same-length-2 c = search needs
 returns-2 : tie.Need-returns-2
 returns-2 c =
     let s = c .before .before .before .before in
-    let b = s .before .before .before in
+    let b = s .before .before in
     let e = b .before .before in
     let d = e .before in
     let z = d .before .before .before .before .before .before in
     let t = sym (d .is-done .ensures) ∙ not-false _ (e .if1 .left) in
-    let l = unmapped _ (z .args .h .lanes) 16 (z .good .1 .0 .1 .1 .1 .1 .0 .1 .0 .1) in
-    rw (c .with-lane .ensures, c .before .finished .ensures, s .put-stores .ensures, s .before .alone .ensures, b .begun .ensures)
+    let l = unmapped _ (z .args .h .lanes) 16 (z .good .1 .0 .1 .1 .1 .1 .1 .0 .1 .0 .1) in
+    rw (c .with-lane .ensures, c .before .finished .ensures, s .put-stores .ensures, b .begun .ensures)
     (write-done _ _ _ _ (z .args .buffer .now) _ (d .before .judge-write .ensures _ refl) t l)
 
 pub write-spec : {M : Type 1} → statement M
@@ -95,7 +92,6 @@ write-spec =
     same-length
     returns
     begun-requires
-    alone-requires
     put-stores-requires
     finished-requires
     with-lane-requires

@@ -44,7 +44,7 @@ pub fn counting(arena: &[u8]) -> Option<usize> {
     [0, arena.len() - INFO_SIZE].into_iter().find(|&at| is_sound(&arena[at..at + INFO_SIZE]))
 }
 
-/// The figures of an info block, for an arena of that length.
+/// The figures of an info block, for an arena of that length; it does not say the layout.
 pub fn figures_of(block: &[u8], length: usize) -> Handle {
     Handle {
         length: length as u64,
@@ -116,15 +116,21 @@ pub fn map_at(f: &Handle, sector: u32) -> usize {
     f.map as usize + 4 * sector as usize
 }
 
-/// The byte at which a half of a lane's pair stands.
-pub fn half_at(f: &Handle, lane: u32, half: u32) -> usize {
-    f.flog as usize + 64 * lane as usize + 16 * half as usize
+/// Whether the second half of a lane's pair may stand so many bytes after the first.
+pub fn layout_allowed(layout: u32) -> bool {
+    matches!(layout, 16 | 32)
 }
 
-/// The padding of a lane: those of its 64 bytes that are in neither half.
-pub fn padding<'a>(arena: &'a [u8], f: &Handle, lane: u32) -> &'a [u8] {
-    let start = f.flog as usize + 64 * lane as usize;
-    &arena[start + 32..start + 64]
+/// The byte at which a half of a lane's pair stands.
+pub fn half_at(f: &Handle, lane: u32, half: u32) -> usize {
+    f.flog as usize + 64 * lane as usize + (f.layout * half) as usize
+}
+
+/// The padding of a lane, which is those of its 64 bytes that are in neither half: what is between the halves, and what is after them.
+pub fn padding<'a>(arena: &'a [u8], f: &Handle, lane: u32) -> [&'a [u8]; 2] {
+    let lane = &arena[f.flog as usize + 64 * lane as usize..][..64];
+    let second = f.layout as usize;
+    [&lane[16..second], &lane[second + 16..]]
 }
 
 /// The block that a sector's map word stands for.

@@ -5,7 +5,7 @@ use crate::require;
 use btt::{Answer, Geometry, Handle, Identifiers, ID_SIZE, INFO_SIZE};
 
 /// The figures that making works out: each part at the least multiple of 4,096 that fits. Where the blocks do not fit their field, the
-/// length is not allowed.
+/// length is not allowed. They are of no layout, for making writes first halves only.
 pub fn made_figures(geometry: Geometry) -> Handle {
     let Geometry { size, sectors, lanes } = geometry;
     let blocks = u64::from(sectors) + u64::from(lanes);

@@ -1,8 +1,8 @@
 //! Opening an arena.
 use crate::bytes::{put_word, word, words};
 use crate::format::{
-    bad_word, block_of, counting, figures_allowed, figures_of, flags_of, half_at, header_allowed, length_allowed, map_at, mapped,
-    newer, padding, sloppy_word, successor,
+    bad_word, block_of, counting, figures_allowed, figures_of, flags_of, half_at, header_allowed, layout_allowed, length_allowed,
+    map_at, mapped, newer, padding, sloppy_word, successor,
 };
 use crate::require;
 use btt::{Answer, Handle, Lane, Opened, INFO_SIZE, MAX_LANES};
@@ -41,12 +41,13 @@ impl Newer {
     }
 }
 
-/// Rules 1 to 4.
-fn judge_info(arena: &[u8]) -> Result<Handle, Answer> {
+/// Rule 16 of the layout, and rules 1 to 4.
+fn judge_info(arena: &[u8], layout: u32) -> Result<Handle, Answer> {
+    require(layout_allowed(layout), Answer::BadHandle)?;
     require(length_allowed(arena.len()), Answer::WrongLength)?;
     let at = counting(arena).ok_or(Answer::NoInfoBlock)?;
     let block = &arena[at..at + INFO_SIZE];
-    let figures = figures_of(block, arena.len());
+    let figures = Handle { layout, ..figures_of(block, arena.len()) };
     require(header_allowed(block) && figures_allowed(&figures, arena.len()), Answer::ForbiddenFigure)?;
     require(flags_of(block) == 0, Answer::FlagsSet)?;
     Ok(figures)
@@ -59,7 +60,7 @@ fn judge_words(arena: &[u8], figures: &Handle, map: &[u8]) -> Result<(), Answer>
         require(!bad_word(figures, word), Answer::BadMapWord)?;
         sloppy |= sloppy_word(word);
     }
-    sloppy |= (0..figures.lanes).any(|lane| padding(arena, figures, lane).iter().any(|byte| *byte != 0));
+    sloppy |= (0..figures.lanes).any(|lane| padding(arena, figures, lane).into_iter().flatten().any(|byte| *byte != 0));
     require(!sloppy, Answer::Sloppy)
 }
 
@@ -96,8 +97,8 @@ fn judge_map(arena: &[u8], figures: &Handle, marks: &mut [u8]) -> Result<[Newer;
 }
 
 /// Judges an arena; nothing is stored to it.
-fn judge(arena: &[u8], work: &mut [u8]) -> Result<(Handle, [Newer; MAX_LANES]), Answer> {
-    let figures = judge_info(arena)?;
+fn judge(arena: &[u8], work: &mut [u8], layout: u32) -> Result<(Handle, [Newer; MAX_LANES]), Answer> {
+    let figures = judge_info(arena, layout)?;
     let marks = work.get_mut(..figures.blocks as usize).ok_or(Answer::ShortWorkBuffer)?;
     let lanes = judge_map(arena, &figures, marks);
     marks.fill(0);
@@ -116,10 +117,10 @@ fn mend(arena: &mut [u8], figures: &Handle, lanes: &[Newer], k: u32) -> u32 {
     pending
 }
 
-/// Opens an arena: its handle, and how many lanes were pending.
+/// Opens an arena in a layout: its handle, and how many lanes were pending.
 #[inline(never)]
-pub fn open(arena: &mut [u8], work: &mut [u8]) -> Result<Opened, Answer> {
-    let (mut handle, lanes) = judge(arena, work)?;
+pub fn open(arena: &mut [u8], work: &mut [u8], layout: u32) -> Result<Opened, Answer> {
+    let (mut handle, lanes) = judge(arena, work, layout)?;
     let lanes = &lanes[..handle.lanes as usize];
     let mended = mend(arena, &handle, lanes, u32::MAX);
     for (record, lane) in handle.lane.iter_mut().zip(lanes) {
@@ -130,7 +131,7 @@ pub fn open(arena: &mut [u8], work: &mut [u8]) -> Result<Opened, Answer> {
 
 /// An opening that stops after k stores: how many lanes were pending.
 #[inline(never)]
-pub fn cut_open(arena: &mut [u8], work: &mut [u8], k: u32) -> Result<u32, Answer> {
-    let (figures, lanes) = judge(arena, work)?;
+pub fn cut_open(arena: &mut [u8], work: &mut [u8], layout: u32, k: u32) -> Result<u32, Answer> {
+    let (figures, lanes) = judge(arena, work, layout)?;
     Ok(mend(arena, &figures, &lanes[..figures.lanes as usize], k))
 }

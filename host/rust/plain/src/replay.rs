@@ -2,6 +2,9 @@
 use crate::{open, start, step};
 use btt::{Answer, Handle, Opened, Replay, MAX_LOG};
 
+/// The layout of every arena that a log is run on.
+const LAYOUT: u32 = 16;
+
 /// A record of a log.
 enum Record {
     Start { lane: u32, sector: u32 },
@@ -33,7 +36,7 @@ fn run(arena: &mut [u8], work: &mut [u8], handle: &mut Handle, number: usize, re
         Record::Start { lane, sector } => start(arena, handle, lane, sector),
         Record::Step { lane } => step(arena, handle, lane, &lent(number, handle.size)),
         Record::Cut => {
-            let opened = open(arena, work);
+            let opened = open(arena, work, LAYOUT);
             *handle = opened.map_or(Handle::default(), |opened| opened.handle);
             opened.map(|_| ())
         }
@@ -43,7 +46,7 @@ fn run(arena: &mut [u8], work: &mut [u8], handle: &mut Handle, number: usize, re
 /// Opens an arena and runs a log on it.
 #[inline(never)]
 pub fn replay(arena: &mut [u8], work: &mut [u8], log: &[u8]) -> Result<Replay, Answer> {
-    let Opened { mut handle, .. } = open(arena, work)?;
+    let Opened { mut handle, .. } = open(arena, work, LAYOUT)?;
     let mut replay = Replay { answers: Vec::new(), stopped: None };
     if log.len() > MAX_LOG {
         replay.stopped = Some(0);

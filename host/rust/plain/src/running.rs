@@ -1,7 +1,8 @@
 //! The calls with a handle: reading a sector, and writing one store by store or whole.
 use crate::bytes::{put_word, word};
 use crate::format::{
-    bad_word, block_at, block_of, figures_allowed, half_at, length_allowed, map_at, mapped, sloppy_word, successor,
+    bad_word, block_at, block_of, figures_allowed, half_at, layout_allowed, length_allowed, map_at, mapped, sloppy_word,
+    successor,
 };
 use crate::require;
 use btt::{Answer, Handle, Lane};
@@ -20,7 +21,7 @@ fn record_allowed(handle: &Handle, record: &Lane) -> bool {
 /// Rule 16: the records of the lanes, if the handle is allowed.
 fn records(handle: &Handle, length: usize) -> Result<&[Lane], Answer> {
     let figures = length_allowed(length) && handle.length == length as u64 && figures_allowed(handle, length);
-    require(figures, Answer::BadHandle)?;
+    require(figures && layout_allowed(handle.layout), Answer::BadHandle)?;
     let records = &handle.lane[..handle.lanes as usize];
     require(records.iter().all(|record| record_allowed(handle, record)), Answer::BadHandle)?;
     Ok(records)

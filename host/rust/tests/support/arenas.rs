@@ -1,5 +1,6 @@
-//! Random arenas: made ones, valid ones of any layout, and damaged ones.
+//! Random arenas: made ones, valid ones with their parts anywhere, in both layouts of the flog, and damaged ones.
 use super::chance::Chance;
+use super::LAYOUTS;
 use btt::{Geometry, Handle, Identifiers};
 use plain::{figures_of, info_block, info_block_of, made_figures, put_long, put_word, seal, word};
 
@@ -27,8 +28,19 @@ fn map_word(chance: &mut Chance, sector: usize, block: usize) -> u32 {
     flags << 30 | block as u32
 }
 
-/// A valid arena whose lanes are pending now and then; bytes of no part are random.
-pub fn valid(chance: &mut Chance) -> Vec<u8> {
+/// A layout.
+pub fn layout(chance: &mut Chance) -> u32 {
+    chance.pick(&LAYOUTS)
+}
+
+/// The bytes of a lane's 64 that are in neither half.
+pub fn padding(layout: u32) -> impl Iterator<Item = usize> {
+    let second = layout as usize..layout as usize + 16;
+    (16..64).filter(move |at| !second.contains(at))
+}
+
+/// An arena that is valid in a layout, whose lanes are pending now and then; bytes of no part are random.
+pub fn valid(chance: &mut Chance, layout: u32) -> Vec<u8> {
     let f = figures(chance);
     let mut arena = chance.bytes(f.length as usize);
     let blocks = spread(chance, &f);
@@ -47,7 +59,7 @@ pub fn valid(chance: &mut Chance) -> Vec<u8> {
             let found = map_word(chance, sector, *old);
             put_word(&mut arena, f.map as usize + 4 * sector, found);
         }
-        put_lane(chance, &mut arena[f.flog as usize + 64 * lane..][..64], [sector, *old, new]);
+        put_lane(chance, &mut arena[f.flog as usize + 64 * lane..][..64], layout, [sector, *old, new]);
     }
     put_info_blocks(chance, &mut arena, &f);
     arena
@@ -70,16 +82,17 @@ fn spread(chance: &mut Chance, f: &Handle) -> Vec<usize> {
 }
 
 /// The flog pair of a lane whose newer half is of these numbers.
-fn put_lane(chance: &mut Chance, pair: &mut [u8], half: [usize; 3]) {
+fn put_lane(chance: &mut Chance, pair: &mut [u8], layout: u32, half: [usize; 3]) {
     let which = chance.below(2);
+    let [newer, other] = [which, 1 - which].map(|half| layout as usize * half);
     let sequence = 1 + chance.below(3) as u32;
     let older = if chance.once_in(3) { 0 } else { [3, 1, 2][sequence as usize - 1] };
     for (i, value) in half.into_iter().enumerate() {
-        put_word(pair, 16 * which + 4 * i, value as u32);
+        put_word(pair, newer + 4 * i, value as u32);
     }
-    put_word(pair, 16 * which + 12, sequence);
-    put_word(pair, 16 * (1 - which) + 12, older);
-    pair[32..].fill(0);
+    put_word(pair, newer + 12, sequence);
+    put_word(pair, other + 12, older);
+    padding(layout).for_each(|at| pair[at] = 0);
 }
 
 /// Both info blocks, one of them spoilt now and then.
@@ -111,10 +124,11 @@ fn telling(chance: &mut Chance, f: &Handle) -> u32 {
     }
 }
 
-/// Makes a map word sloppy, or the padding of a lane; gives the sector, if it was a word.
+/// Makes a map word sloppy, or the padding of a lane in the layout of these figures; gives the sector, if it was a word.
 pub fn slop(chance: &mut Chance, arena: &mut [u8], f: &Handle) -> Option<u32> {
     if chance.once_in(2) {
-        let place = f.flog as usize + 64 * chance.below(f.lanes as usize) + 32 + chance.below(32);
+        let padding: Vec<usize> = padding(f.layout).collect();
+        let place = f.flog as usize + 64 * chance.below(f.lanes as usize) + chance.pick(&padding);
         arena[place] = 1 << chance.below(8);
         return None;
     }
@@ -125,13 +139,13 @@ pub fn slop(chance: &mut Chance, arena: &mut [u8], f: &Handle) -> Option<u32> {
     Some(sector)
 }
 
-/// Damages an arena at one or two places.
-pub fn damage(chance: &mut Chance, arena: &mut Vec<u8>) {
+/// Damages an arena of a layout at one or two places.
+pub fn damage(chance: &mut Chance, arena: &mut Vec<u8>, layout: u32) {
     for _ in 0..1 + chance.below(2) {
         let Some(at) = info_block(arena) else {
             return;
         };
-        let f = figures_of(&arena[at..at + 4096], arena.len());
+        let f = Handle { layout, ..figures_of(&arena[at..at + 4096], arena.len()) };
         let inside =
             |start: u64, unit: u64, count: u32| count > 0 && start.saturating_add(unit * u64::from(count)) <= arena.len() as u64;
         let value = telling(chance, &f);
@@ -142,8 +156,8 @@ pub fn damage(chance: &mut Chance, arena: &mut Vec<u8>) {
                 put_word(arena, f.map as usize + 4 * sector, value);
             }
             3..=5 if inside(f.flog, 64, f.lanes) => {
-                let place = 16 * chance.below(f.lanes as usize) + chance.below(8);
-                put_word(arena, f.flog as usize + 4 * place, value);
+                let half = 64 * chance.below(f.lanes as usize) + layout as usize * chance.below(2);
+                put_word(arena, f.flog as usize + half + 4 * chance.below(4), value);
             }
             6 => {
                 let place = chance.below(arena.len());

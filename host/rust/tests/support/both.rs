@@ -1,7 +1,7 @@
 //! The library and the plain program side by side: each call is made on both, and everything that it gives or leaves is compared.
 use super::number;
-use super::raw::Raw;
-use btt::{AlignedBytes, Answer, Arena, ArenaRef, Geometry, Handle, Identifiers, Opened, Replay, MAX_BLOCKS};
+use super::raw::{self, Raw};
+use btt::{AlignedBytes, Answer, Arena, ArenaRef, Geometry, Handle, Identifiers, Layout, Opened, Replay, MAX_BLOCKS};
 use std::fmt::Debug;
 
 /// An arena and a handle in the library's hands, and the same arena in the plain program's.
@@ -62,24 +62,37 @@ impl Both {
         assert_eq!(found, expected, "the caller's own bytes");
     }
 
-    /// Opens the arena; the handle is the one that opening gives, and as it was after a refusal.
+    /// Opens the arena, told any number as the layout; the handle is the one that opening gives, and as it was after a refusal.
     #[track_caller]
-    pub fn open(&mut self, work: &[u8]) -> u32 {
+    pub fn open(&mut self, layout: u32, work: &[u8]) -> u32 {
         let (mut work, mut plain_work) = (work.to_vec(), work.to_vec());
-        let found = self.lent().open(&mut work);
-        let expected = plain::open(&mut self.plain, &mut plain_work);
+        let found = match Layout::try_from(layout) {
+            Ok(layout) => self.lent().open_in(layout, &mut work),
+            Err(_) => raw::open(&mut self.arena, &mut work, layout),
+        };
+        let expected = plain::open(&mut self.plain, &mut plain_work, layout);
         assert_eq!(work, plain_work, "open leaves the work buffer");
         if let Ok(Opened { handle, .. }) = found {
+            assert_eq!(handle.layout, layout, "the handle carries the layout");
             self.handle = handle;
         }
         self.same("open", found, expected)
     }
 
+    /// Opens the arena again, in the layout of its handle.
     #[track_caller]
-    pub fn cut_open(&mut self, work: &[u8], k: u32) -> u32 {
+    pub fn reopen(&mut self, work: &[u8]) -> u32 {
+        self.open(self.handle.layout, work)
+    }
+
+    #[track_caller]
+    pub fn cut_open(&mut self, layout: u32, work: &[u8], k: u32) -> u32 {
         let (mut work, mut plain_work) = (work.to_vec(), work.to_vec());
-        let found = self.lent().cut_open(&mut work, k);
-        let expected = plain::cut_open(&mut self.plain, &mut plain_work, k);
+        let found = match Layout::try_from(layout) {
+            Ok(layout) => self.lent().cut_open_in(layout, &mut work, k),
+            Err(_) => raw::cut_open(&mut self.arena, &mut work, layout, k),
+        };
+        let expected = plain::cut_open(&mut self.plain, &mut plain_work, layout, k);
         assert_eq!(work, plain_work, "cut_open leaves the work buffer");
         self.same("cut_open", found, expected)
     }

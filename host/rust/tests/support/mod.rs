@@ -14,6 +14,15 @@ use btt::{AlignedBytes, Answer, Geometry, Identifiers, MAX_BLOCKS};
 pub const GEOMETRY: Geometry = Geometry { size: 512, sectors: 60, lanes: 4 };
 pub const LENGTH: usize = 49_152;
 
+/// The layouts, and numbers that are none.
+pub const LAYOUTS: [u32; 2] = [16, 32];
+pub const NO_LAYOUTS: [u32; 10] = [0, 1, 15, 17, 31, 33, 48, 64, u32::MAX, 0x1_0010];
+
+/// The layout that is not this one.
+pub fn other(layout: u32) -> u32 {
+    LAYOUTS.into_iter().find(|other| *other != layout).unwrap()
+}
+
 /// The number of a result.
 pub fn number<T>(result: &Result<T, Answer>) -> u32 {
     result.as_ref().err().map_or(0, |answer| answer.number())
@@ -27,6 +36,6 @@ pub fn made(geometry: Geometry) -> AlignedBytes {
 }
 
 /// How many lanes of a valid arena are pending, by the plain program; the arena is not changed.
-pub fn pending(arena: &[u8]) -> Result<u32, Answer> {
-    plain::cut_open(&mut arena.to_vec(), &mut vec![0; MAX_BLOCKS], 0)
+pub fn pending(arena: &[u8], layout: u32) -> Result<u32, Answer> {
+    plain::cut_open(&mut arena.to_vec(), &mut vec![0; MAX_BLOCKS], layout, 0)
 }

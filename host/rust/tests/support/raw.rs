@@ -1,6 +1,37 @@
-//! A replay as C sees it: everything that it is lent, and the three numbers that it gives.
-use btt::sys::btt_replay;
-use btt::{AlignedBytes, Answer, Replay};
+//! Openings as C sees them, told any number as the layout; and a replay as C sees it, with everything that it is lent and the three
+//! numbers that it gives.
+use btt::sys::{btt_cut_open, btt_open, btt_replay};
+use btt::{AlignedBytes, Answer, Handle, Opened, Replay};
+
+/// The result that a number stands for.
+#[track_caller]
+fn result<T>(number: u32, accepted: T) -> Result<T, Answer> {
+    let answer = Answer::from_number(number);
+    assert!(number == 0 || answer.is_some(), "{number} is no answer");
+    answer.map_or(Ok(accepted), Err)
+}
+
+/// Opens an arena; a refusal must give zeroes for a handle and no count.
+#[track_caller]
+pub fn open(arena: &mut AlignedBytes, work: &mut [u8], layout: u32) -> Result<Opened, Answer> {
+    let (mut handle, mut mended) = (Handle::from_bytes(&[0xA5; 512]), 9);
+    let (bytes, length) = (arena.as_mut_ptr(), arena.len());
+    // SAFETY: the pointers are of slices with their lengths, a handle and a number, which lie apart; aligned bytes are the arena.
+    let number = unsafe { btt_open(bytes, length, work.as_mut_ptr(), work.len(), layout, &raw mut handle, &raw mut mended) };
+    assert!(number == 0 || (handle, mended) == (Handle::default(), 0), "what opening gives with {number}");
+    result(number, Opened { handle, mended })
+}
+
+/// An opening that stops after k stores; a refusal must give no count.
+#[track_caller]
+pub fn cut_open(arena: &mut AlignedBytes, work: &mut [u8], layout: u32, k: u32) -> Result<u32, Answer> {
+    let mut mended = 9;
+    let (bytes, length) = (arena.as_mut_ptr(), arena.len());
+    // SAFETY: as in `open`.
+    let number = unsafe { btt_cut_open(bytes, length, work.as_mut_ptr(), work.len(), layout, k, &raw mut mended) };
+    assert!(number == 0 || mended == 0, "what a cut opening gives with {number}");
+    result(number, mended)
+}
 
 /// The arena, the work buffer and the answers, and the number returned, the records run and the offset.
 #[derive(Clone, PartialEq, Eq)]

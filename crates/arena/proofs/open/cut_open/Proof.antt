@@ -1,9 +1,8 @@
--- `arena::open::cut_open` meets its contract: what an arena by itself is told is in order.
+-- `arena::open::cut_open` meets its contract: it is told what an arena by itself is.
 use mathlib.Core.Path.{ap, _∙_}
 use borrow.Author.Needs.{needs}
 use Rattle.layout.specs.declared.Told.{Told}
 use Rattle.machine.specs.calls.Opening.{cutOpenOf}
-use Rattle.machine.proofs.opening.Described.{told-alone}
 use Rattle.arena.proofs.open.cut_open.Statement.{statement}
 use Rattle.arena.proofs.open.cut_open.Tie as tie
 
@@ -11,7 +10,7 @@ alone-requires : tie.Need-alone-requires
 alone-requires c κs = search needs
 
 judge-and-mend-requires : tie.Need-judge-and-mend-requires
-judge-and-mend-requires c κs = rw (c .before .alone .ensures) told-alone
+judge-and-mend-requires c κs = search needs
 
 same-length : tie.Need-same-length
 same-length c = search needs

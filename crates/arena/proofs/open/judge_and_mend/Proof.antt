@@ -33,7 +33,7 @@ mend-requires c κs =
     let s = at-judge .before .before .before .before .before in
     let j = at-judge .judge .ensures in
     let z = sym (at-is-done .is-done .ensures) ∙ not-false _ (c .before .if1 .left) in
-    mendable _ (s .pre) _ (s .args .work .now) _ _ (j .0) z (j .1 .0)
+    mendable _ _ (s .args .work .now) _ _ (j .0) z (j .1 .0)
 
 same-length-3 : tie.Need-same-length-3
 same-length-3 c = search needs
@@ -50,7 +50,7 @@ returns-2 c =
     let s = at-judge .before .before .before .before .before in
     let j = at-judge .judge .ensures in
     let z = sym (at-is-done .is-done .ensures) ∙ not-false _ (at-if1 .if1 .left) in
-    let f = figures-are _ (s .pre) _ (s .args .work .now) _ _ (j .0) z (j .1 .0) in
+    let f = figures-are _ _ (s .args .work .now) _ _ (j .0) z (j .1 .0) in
     (cut-done _ _ _ _ _ _ (j .0) (j .1 .1) z _ f _ _ (at-mend .mend .ensures .0) (at-mend .mend .ensures .1), j .1 .0)
 
 pub judge-and-mend-spec : {M : Type 1} → statement M

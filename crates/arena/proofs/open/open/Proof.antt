@@ -4,7 +4,6 @@ use borrow.Author.Tests.{not-true, not-false}
 use borrow.Author.Needs.{needs}
 use Rattle.layout.specs.declared.Told.{Told}
 use Rattle.machine.specs.calls.Opening.{openOf}
-use Rattle.machine.proofs.opening.Described.{told-alone}
 use Rattle.arena.specs.Calls.{packedOpening}
 use Rattle.arena.proofs.Opened.{refuses, readable, accepts}
 use Rattle.arena.proofs.open.open.Statement.{statement}
@@ -14,7 +13,7 @@ alone-requires : tie.Need-alone-requires
 alone-requires c κs = search needs
 
 judge-and-mend-requires : tie.Need-judge-and-mend-requires
-judge-and-mend-requires c κs = rw (c .before .before .alone .ensures) told-alone
+judge-and-mend-requires c κs = search needs
 
 is-done-requires : tie.Need-is-done-requires
 is-done-requires c κs = search needs
@@ -48,7 +47,7 @@ handle-of-requires c κs =
     let j = at-judge-and-mend .judge-and-mend in
     let z = sym (at-is-done .is-done .ensures) ∙ not-false _ (c .before .if1 .left) in
     readable _ (s .args .arena .now) (s .args .work .now) (j .last .0) (j .last .1 .1 .0) _ (j .result .opened .mended) (j .ensures .0)
-    (rw (at-alone .alone .ensures) told-alone) z (λ i. at-alone .before .before .slice-known .given i .fits) _ (j .ensures .1)
+    z (λ i. at-alone .before .before .slice-known .given i .fits) _ (j .ensures .1)
 
 same-length-3 : tie.Need-same-length-3
 same-length-3 c = search needs
@@ -65,7 +64,7 @@ returns-2 c =
     let j = at-judge-and-mend .judge-and-mend in
     let z = sym (at-is-done .is-done .ensures) ∙ not-false _ (c .before .before .if1 .left) in
     accepts _ (s .args .arena .now) (s .args .work .now) (j .last .0) (j .last .1 .1 .0) _ (j .result .opened .mended) (j .ensures .0)
-    (rw (at-alone .alone .ensures) told-alone) z (λ i. at-alone .before .before .slice-known .given i .fits) _ (j .ensures .1)
+    z (λ i. at-alone .before .before .slice-known .given i .fits) _ (j .ensures .1)
     _ (c .handle-of .ensures)
     ∙ ap (λ (t : Told). packedOpening (openOf t (s .args .arena .now) (s .args .work .now))) (at-alone .alone .ensures)
 

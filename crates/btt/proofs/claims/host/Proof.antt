@@ -1,6 +1,6 @@
 -- `btt::claims::host` ensures the claim about the library's calls, which is proved in `Fits`, `Same` and `Shown`.
 use mathlib.Core.Path.{refl}
-use Rattle.btt.proofs.Fits.{opened-holds, refused-zeroes}
+use Rattle.btt.proofs.Fits.{opened-holds, refused-zeroes, opened-layout}
 use Rattle.btt.proofs.Same.{read-same, start-same, step-same, write-same}
 use Rattle.btt.proofs.Shown.{
   info-shown,
@@ -11,6 +11,7 @@ use Rattle.btt.proofs.Shown.{
   write-left,
   lane-left,
   next-left,
+  layout-wrong,
   busy-wrong,
   record-only,
   lane-answered,
@@ -27,6 +28,7 @@ returns c = record {
   info-place = info-placed;
   opened = opened-holds;
   open-refused = refused-zeroes;
+  layout = opened-layout;
   read = read-same;
   start = λ a b h l s t. start-same a b h l t s;
   step = λ a b h l buffer t. step-same a b h l t buffer;
@@ -38,6 +40,7 @@ returns c = record {
   lane-refused = lane-left;
   next-refused = next-left;
   busy = busy-wrong;
+  wrong-layout = layout-wrong;
   kept = record-only;
   lane-order = λ l. refl;
   next-order = λ l. refl;

@@ -2,7 +2,6 @@
 use mathlib.Core.List.{[]}
 use Prim.Native.Nat.{_+_, _*_, _≤_}
 use lib.ListN.{length}
-use Rattle.layout.specs.Told.{alone}
 use Rattle.machine.proofs.calls.Rule16.{lane-taken}
 use Rattle.machine.proofs.calls.Running.{handle-fit}
 use Rattle.stores.proofs.Plans.{store-inside}
@@ -24,30 +23,27 @@ element-copy-out-r c =
     let s = c .before .before in
     few _ _ _ (s .pre .0) (s .pre .1)
 
-alone-requires : tie.Need-alone-requires
-alone-requires c κs = search needs
-
 store-place-requires : tie.Need-store-place-requires
 store-place-requires c κs =
-    let s = c .before .before .before .before .before in
+    let s = c .before .before .before .before in
     let r = lane-taken (s .args .t2 .lanes) (s .args .t2 .figures .lanes) (s .args .lane .0) (s .pre .1) in
     next-fit _ _ (s .pre .0) _ (s .pre .1) _ r
 
 mul-result : tie.Need-mul-result
 mul-result c =
-    let s = c .before .before .before .before .before .before in
+    let s = c .before .before .before .before .before in
     let r = lane-taken (s .args .t2 .lanes) (s .args .t2 .figures .lanes) (s .args .lane .0) (s .pre .1) in
     let u = store-inside _ _ _ _ [] _ (next-fit _ _ (s .pre .0) _ (s .pre .1) _ r) _ (handle-fit _ _ (s .pre .0)) in
-    let v : 4 * c .store-place .result + 4 ≤ length (s .args .arena .now) = rw (c .store-place .ensures [], c .before .alone .ensures) u in
+    let v : 4 * c .store-place .result + 4 ≤ length (s .args .arena .now) = rw (c .store-place .ensures []) u in
     search needs
 
 returns : tie.Need-returns
 unfolding nextOffset
 returns c =
-    let s = c .before .before .before .before .before .before in
+    let s = c .before .before .before .before .before in
     let r = lane-taken (s .args .t2 .lanes) (s .args .t2 .figures .lanes) (s .args .lane .0) (s .pre .1) in
-    rw (c .store-place .ensures [], c .before .alone .ensures, r)
+    rw (c .store-place .ensures [], r)
 
 pub next-offset-spec : {M : Type 1} → statement M
 next-offset-spec =
-    tie.close (tie.spec cast-i mul-r element-copy-out-r alone-requires store-place-requires mul-result returns)
+    tie.close (tie.spec cast-i mul-r element-copy-out-r store-place-requires mul-result returns)

@@ -1,5 +1,5 @@
 -- `handlebytes::claims::bytes` ensures the claim about the bytes of a handle, which is proved in `Offsets`, `Round` and `Whole`.
-use Rattle.handlebytes.proofs.Offsets.{head-at, lane-from, reserved-at}
+use Rattle.handlebytes.proofs.Offsets.{head-at, lane-from}
 use Rattle.handlebytes.proofs.Round.{stored-stands, fits-back}
 use Rattle.handlebytes.proofs.Whole.{encoded-stands, zeroes-stand}
 use Rattle.handlebytes.proofs.claims.bytes.Statement.{statement}
@@ -10,7 +10,6 @@ returns c =
     record {
       head = head-at;
       lane = lane-from;
-      reserved = reserved-at;
       encoded = encoded-stands;
       zeroes = zeroes-stand;
       stored = stored-stands;

@@ -52,7 +52,7 @@ judge-map-requires c κs =
     let z = sym (at-is-done .is-done .ensures) ∙ not-false (at-is-done .is-done .result) (at-if1 .if1 .left) in
     let w = start .args .work .now in
     let n = i .0 (length w) in
-    (figures-fit _ _ w _ _ n z (i .1) (start .pre), figures-are _ _ w _ _ n z (i .1), c .before .if2 .left)
+    (figures-fit _ _ w _ _ n z (i .1), figures-are _ _ w _ _ n z (i .1), c .before .if2 .left)
 
 is-done-requires-2 : tie.Need-is-done-requires-2
 is-done-requires-2 c κs = search needs

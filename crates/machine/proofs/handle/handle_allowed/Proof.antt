@@ -1,10 +1,10 @@
 -- `machine::handle::handle_allowed` meets its contract. Each answer is a law of rule 16 at the tests that led there.
-use mathlib.Core.Path.{refl, sym, _∙_}
+use mathlib.Core.Path.{sym, _∙_}
 use borrow.Author.Needs.{needs}
 use borrow.Author.Tests.{not-true, not-false}
 use Rattle.layout.proofs.Allowed.{allowed-of}
 use Rattle.infoblock.proofs.InfoBlock.{length-of}
-use Rattle.machine.proofs.calls.Rule16.{handle-length, handle-slice, handle-figures, handle-last}
+use Rattle.machine.proofs.calls.Rule16.{handle-length, handle-slice, handle-layout, handle-figures, handle-last}
 use Rattle.machine.proofs.handle.handle_allowed.Statement.{statement}
 use Rattle.machine.proofs.handle.handle_allowed.Tie as tie
 
@@ -19,30 +19,44 @@ returns-2 c =
     let p = c .before .before in
     handle-slice _ _ (sym (p .before .length-allowed .ensures) ∙ not-false (p .before .length-allowed .result) (p .if1 .left)) (c .if2 .taken)
 
-figures-allowed-requires : tie.Need-figures-allowed-requires
-figures-allowed-requires c κs =
-    let p = c .before .before in
-    length-of _ (sym (p .before .length-allowed .ensures) ∙ not-false (p .before .length-allowed .result) (p .if1 .left)) .2
+distance-allowed-requires : tie.Need-distance-allowed-requires
+distance-allowed-requires c κs = search needs
 
 returns-3 : tie.Need-returns-3
 returns-3 c =
     let q = c .before .before in
     let p = q .before .before in
-    handle-figures _ _ (sym (p .before .length-allowed .ensures) ∙ not-false (p .before .length-allowed .result) (p .if1 .left)) (q .if2 .left) refl
-    (sym (c .before .figures-allowed .ensures) ∙ not-true (c .before .figures-allowed .result) (c .if3 .taken))
+    handle-layout _ _ (sym (p .before .length-allowed .ensures) ∙ not-false (p .before .length-allowed .result) (p .if1 .left)) (q .if2 .left)
+    (sym (c .before .distance-allowed .ensures) ∙ not-true (c .before .distance-allowed .result) (c .if3 .taken))
 
-lanes-allowed-requires : tie.Need-lanes-allowed-requires
-lanes-allowed-requires c κs =
-    allowed-of _ _ (sym (c .before .figures-allowed .ensures) ∙ not-false (c .before .figures-allowed .result) (c .if3 .left)) .few-lanes
+figures-allowed-requires : tie.Need-figures-allowed-requires
+figures-allowed-requires c κs =
+    let p = c .before .before .before .before in
+    length-of _ (sym (p .before .length-allowed .ensures) ∙ not-false (p .before .length-allowed .result) (p .if1 .left)) .2
 
 returns-4 : tie.Need-returns-4
 returns-4 c =
-    let r = c .before in
+    let r = c .before .before in
+    let q = r .before .before in
+    let p = q .before .before in
+    handle-figures _ _ (sym (p .before .length-allowed .ensures) ∙ not-false (p .before .length-allowed .result) (p .if1 .left)) (q .if2 .left)
+    (sym (r .before .distance-allowed .ensures) ∙ not-false (r .before .distance-allowed .result) (r .if3 .left))
+    (sym (c .before .figures-allowed .ensures) ∙ not-true (c .before .figures-allowed .result) (c .if4 .taken))
+
+lanes-allowed-requires : tie.Need-lanes-allowed-requires
+lanes-allowed-requires c κs =
+    allowed-of _ _ (sym (c .before .figures-allowed .ensures) ∙ not-false (c .before .figures-allowed .result) (c .if4 .left)) .few-lanes
+
+returns-5 : tie.Need-returns-5
+returns-5 c =
+    let t = c .before in
+    let r = t .before .before in
     let q = r .before .before in
     let p = q .before .before in
     c .lanes-allowed .ensures
-    ∙ handle-last _ _ (sym (p .before .length-allowed .ensures) ∙ not-false (p .before .length-allowed .result) (p .if1 .left)) (q .if2 .left) refl
-    (sym (r .before .figures-allowed .ensures) ∙ not-false (r .before .figures-allowed .result) (r .if3 .left))
+    ∙ handle-last _ _ (sym (p .before .length-allowed .ensures) ∙ not-false (p .before .length-allowed .result) (p .if1 .left)) (q .if2 .left)
+    (sym (r .before .distance-allowed .ensures) ∙ not-false (r .before .distance-allowed .result) (r .if3 .left))
+    (sym (t .before .figures-allowed .ensures) ∙ not-false (t .before .figures-allowed .result) (t .if4 .left))
 
 pub handle-allowed-spec : {M : Type 1} → statement M
 handle-allowed-spec =
@@ -51,7 +65,9 @@ handle-allowed-spec =
     length-allowed-requires
     returns
     returns-2
-    figures-allowed-requires
+    distance-allowed-requires
     returns-3
+    figures-allowed-requires
+    returns-4
     lanes-allowed-requires
-    returns-4)
+    returns-5)

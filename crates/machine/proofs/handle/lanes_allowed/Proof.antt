@@ -33,7 +33,7 @@ cast-n c = search needs
 loop-holds : tie.Need-loop-holds Inv-loop μ-loop
 loop-holds c = (
   search needs,
-  (refl, (refl, (every-zero _, unmapped _ (c .before .before .args .t1 .lanes) maxLanes (c .before .before .good .0 .1 .1 .1 .1 .0 .1 .0 .1)))),
+  (refl, (refl, (every-zero _, unmapped _ (c .before .before .args .t1 .lanes) maxLanes (c .before .before .good .0 .1 .1 .1 .1 .1 .0 .1 .0 .1)))),
 )
 
 mul-r : tie.Need-mul-r Inv-loop μ-loop
@@ -49,7 +49,7 @@ returns : tie.Need-returns Inv-loop μ-loop
 returns c =
     let p = c .before .before .before .before .loop .inv in
     let u = c .before .before .before .loop-test .taken in
-    let h = record-judged _ _ _ _ _ _ u (p .1 .0) (ap (λ (x : Figures). x .lanes) (p .1 .1 .0)) _ (c .before .lane-allowed .ensures 16) in
+    let h = record-judged _ _ _ _ _ _ u (p .1 .0) (ap (λ (x : Figures). x .lanes) (p .1 .1 .0)) _ (c .before .lane-allowed .ensures _) in
     sym (every-fails _ _ (c .before .before .before .before .loop .i) (omega (arith, u, p .1 .0, ap (λ (x : Figures). x .lanes) (p .1 .1 .0)))
     (sym h ∙ not-true (c .before .lane-allowed .result) (c .if1 .taken)))
 
@@ -63,7 +63,7 @@ loop-again : tie.Need-loop-again Inv-loop μ-loop
 loop-again c =
     let p = c .before .before .before .before .loop .inv in
     let u = c .before .before .before .loop-test .taken in
-    let h = record-judged _ _ _ _ _ _ u (p .1 .0) (ap (λ (x : Figures). x .lanes) (p .1 .1 .0)) _ (c .before .lane-allowed .ensures 16) in
+    let h = record-judged _ _ _ _ _ _ u (p .1 .0) (ap (λ (x : Figures). x .lanes) (p .1 .1 .0)) _ (c .before .lane-allowed .ensures _) in
     let t = sym h ∙ not-false (c .before .lane-allowed .result) (c .if1 .left) in
     (search needs, (refl, (refl, (rw add-one (every-step _ _ ∙ and-intro _ _ (p .1 .1 .1 .0) t), p .1 .1 .1 .1))))
 

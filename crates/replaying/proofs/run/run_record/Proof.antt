@@ -35,7 +35,7 @@ same-length c = search needs
 returns : tie.Need-returns
 returns c =
     let s = c .before .before .before .before .before .before .before in
-    let room = unmapped _ (s .args .h .lanes) 16 (s .good .1 .1 .0 .1 .1 .1 .1 .0 .1 .0 .1) in
+    let room = unmapped _ (s .args .h .lanes) 16 (s .good .1 .1 .0 .1 .1 .1 .1 .1 .0 .1 .0 .1) in
     let e = c .start .ensures in
     rw (c .before .before .before .found .given .1)
     (start-point _ (s .args .h) room _ _ _ _ _ _ e, ap (λ (x : PackedOutcome). x .number) e)
@@ -46,7 +46,7 @@ same-length-2 c = search needs
 returns-2 : tie.Need-returns-2
 returns-2 c =
     let s = c .before .before .before .before .before .before .before .before .before in
-    let room = unmapped _ (s .args .h .lanes) 16 (s .good .1 .1 .0 .1 .1 .1 .1 .0 .1 .0 .1) in
+    let room = unmapped _ (s .args .h .lanes) 16 (s .good .1 .1 .0 .1 .1 .1 .1 .1 .0 .1 .0 .1) in
     let e = c .before .before .run-step .ensures in
     rw (c .before .before .before .before .before .found2 .given .1)
     (step-point _ (s .args .h) room _ _ _ _ _ _ e, ap (λ (x : PackedOutcome). x .number) e)

@@ -1,6 +1,6 @@
 //! The command line.
 use crate::problem::Problem;
-use btt::ID_SIZE;
+use btt::{Layout, ID_SIZE};
 use std::collections::HashMap;
 use std::ffi::OsString;
 
@@ -20,8 +20,11 @@ btt: sectors that a power cut cannot tear, in a file that holds one arena of a b
   btt read FILE N              writes sector N to standard output
   btt write FILE N             writes sector N from standard input, just S bytes; killed at any moment, it leaves the
                                sector as it was or as it is to be, whole
-  btt replay IMAGE LOG         opens the arena of a file and runs a log of starts, steps and power cuts on it; a line for
-                               each record that ran, N ok or N refused R, and stopped 20 at B where a record is bad
+      --layout L               for report, dump, read and write: the byte, 16 or 32, at which each lane of the arena keeps
+                               the second half of its flog pair; 16 if not given
+  btt replay IMAGE LOG         opens the arena of a file and runs a log of starts, steps and power cuts on it, in layout 16;
+                               a line for each record that ran, N ok or N refused R, and stopped 20 at B where a record
+                               is bad
   btt --help, btt --version
 
 After -- every word is a plain one, so that a file's name may begin with a dash.
@@ -71,6 +74,8 @@ const LANES: u32 = 4;
 pub struct Arguments {
     pub command: Command,
     pub file: OsString,
+    /// The layout of the arena in the file, for the commands that are told it.
+    pub layout: Layout,
 }
 
 /// The words of a command line: those that stand alone, and the options with their values.
@@ -80,32 +85,34 @@ struct Words {
     force: bool,
 }
 
-const OPTIONS: [&str; 6] = ["--bytes", "--size", "--sectors", "--lanes", "--id", "--parent"];
+/// The options with a value: those of make, and those of the commands that open an arena in the layout that they are told.
+const MAKING: [&str; 6] = ["--bytes", "--size", "--sectors", "--lanes", "--id", "--parent"];
+const OPENING: [&str; 1] = ["--layout"];
 
 pub fn parse(given: impl Iterator<Item = OsString>) -> Result<Arguments, Problem> {
     let given: Vec<OsString> = given.collect();
     let options = || given.iter().take_while(|word| *word != "--");
     let has = |names: [&str; 2]| options().any(|word| names.iter().any(|name| word == name));
     if has(["--help", "-h"]) {
-        return Ok(Arguments { command: Command::Help, file: OsString::new() });
+        return Ok(Arguments { command: Command::Help, file: OsString::new(), layout: Layout::default() });
     }
     if has(["--version", "-V"]) {
-        return Ok(Arguments { command: Command::Version, file: OsString::new() });
+        return Ok(Arguments { command: Command::Version, file: OsString::new(), layout: Layout::default() });
     }
     let words = sorted(given)?;
     let name = words.plain.first().map(|name| name.to_string_lossy().into_owned());
     let command = match name.as_deref() {
-        Some("make") => words.only(2)?.making()?,
-        Some("report") => words.without_options()?.only(2).map(|_| Command::Report)?,
-        Some("dump") => words.without_options()?.only(2).map(|_| Command::Dump)?,
-        Some("read") => Command::Read { sector: words.without_options()?.only(3)?.sector()? },
-        Some("write") => Command::Write { sector: words.without_options()?.only(3)?.sector()? },
-        Some("replay") => Command::Replay { log: words.without_options()?.only(3)?.plain[2].clone() },
+        Some("make") => words.with(&[&MAKING[..], &["--force"]].concat())?.only(2)?.making()?,
+        Some("report") => words.with(&OPENING)?.only(2).map(|_| Command::Report)?,
+        Some("dump") => words.with(&OPENING)?.only(2).map(|_| Command::Dump)?,
+        Some("read") => Command::Read { sector: words.with(&OPENING)?.only(3)?.sector()? },
+        Some("write") => Command::Write { sector: words.with(&OPENING)?.only(3)?.sector()? },
+        Some("replay") => Command::Replay { log: words.with(&[])?.only(3)?.plain[2].clone() },
         Some(other) => return Err(Problem::Usage(format!("{other} is no command"))),
         None => return Err(Problem::Usage("no command is given".into())),
     };
-    let file = words.plain[1].clone();
-    Ok(Arguments { command, file })
+    let (file, layout) = (words.plain[1].clone(), words.layout()?);
+    Ok(Arguments { command, file, layout })
 }
 
 /// Sorts the words of a command line.
@@ -132,7 +139,7 @@ fn sorted(given: Vec<OsString>) -> Result<Words, Problem> {
             Some((name, value)) => (name.to_string(), Some(value.into())),
             None => (option, given.next()),
         };
-        if !OPTIONS.contains(&name.as_str()) {
+        if ![&MAKING[..], &OPENING].concat().contains(&name.as_str()) {
             return Err(Problem::Usage(format!("{name} is no option")));
         }
         let value = value.and_then(|value: OsString| value.into_string().ok());
@@ -156,13 +163,22 @@ impl Words {
         }
     }
 
-    /// The words, if they have no options.
-    fn without_options(&self) -> Result<&Words, Problem> {
-        if self.options.is_empty() && !self.force {
-            Ok(self)
-        } else {
-            Err(Problem::Usage("only make takes options".into()))
+    /// The words, if they have no other options than these.
+    fn with(&self, options: &[&str]) -> Result<&Words, Problem> {
+        let force = self.force.then_some("--force");
+        match self.options.keys().map(String::as_str).chain(force).find(|name| !options.contains(name)) {
+            Some(other) => Err(Problem::Usage(format!("{} takes no {other}", self.plain[0].to_string_lossy()))),
+            None => Ok(self),
         }
+    }
+
+    /// The layout that is told, or the usual one.
+    fn layout(&self) -> Result<Layout, Problem> {
+        let Some(text) = self.options.get("--layout") else {
+            return Ok(Layout::default());
+        };
+        let told = number("--layout", text).ok().and_then(|bytes| Layout::try_from(bytes).ok());
+        told.ok_or_else(|| Problem::Usage(format!("--layout is 16 or 32, not {text}")))
     }
 
     fn making(&self) -> Result<Command, Problem> {
@@ -245,6 +261,26 @@ mod tests {
     }
 
     #[test]
+    fn a_layout_is_taken_where_an_arena_is_opened() {
+        for line in ["report a", "dump a", "read a 7", "write a 7"] {
+            let layout = |option: &str| parsed(&format!("{line} {option}")).map(|told| told.layout);
+            assert_eq!(layout("").unwrap(), Layout::Near);
+            assert_eq!(layout("--layout 16").unwrap(), Layout::Near);
+            assert_eq!(layout("--layout 32").unwrap(), Layout::Far);
+            assert_eq!(layout("--layout=32").unwrap(), Layout::Far);
+            for other in ["0", "15", "17", "31", "33", "64", "4294967295", "4294967312", "+16", "-16", "0x20", "far", ""] {
+                let said = layout(&format!("--layout={other}")).unwrap_err().to_string();
+                assert!(said.starts_with(&format!("--layout is 16 or 32, not {other}\n")), "{said}");
+            }
+            assert!(layout("--layout").is_err() && layout("--layout 16 --layout 16").is_err());
+        }
+        for line in ["make a --bytes 48K --layout 32", "make a --layout=16 --bytes 48K", "replay a b --layout 16"] {
+            let said = parsed(line).unwrap_err().to_string();
+            assert!(said.contains(" takes no --layout\n"), "{said}");
+        }
+    }
+
+    #[test]
     fn makings_are_understood() {
         let own: Vec<u8> = (0..16).map(|i| i * 17).collect();
         let told = make("make a --size 4096 --sectors=60 --lanes 2 --id 00112233-4455-6677-8899-aabbccddeeFF --force");
@@ -271,7 +307,7 @@ mod tests {
     fn other_lines_are_not() {
         let lines = "|reed a|report|report a b|read a|read a x|read a -1|read a +5|read a 4294967296|write a 1 2|write a +1\
             |dump a --size 512|make a|make a --size 512 --lanes 4|make a --bytes 1M --sectors 60|make a --sectors 60 --lanes\
-            |make a --sectors 60 --size 512 --size 512|make a --sectors 60 --id 0|make a --sectors 60 --id xx|report a --force\
+            |make a --sectors 60 --size 512 --size 512|make a --sectors 60 --id 0|make a --sectors 60 --id xx|report a --force|make a --sectors 60 --force=1\
             |make a b --sectors 60|make a --sectors 60 --other 1|make a --sectors +60|make a --sectors 60 --size +512\
             |make a --bytes|make a --bytes M|make a --bytes 1G|make a --bytes +1M|make a --bytes 1.5M|make a --bytes 4294967296|--|-- --help\
             |read -- a 7 --force|report -|replay|replay a|replay a b c|replay a b --force|replay a b --size 512";

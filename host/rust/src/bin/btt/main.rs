@@ -2,6 +2,7 @@
 //! run logs on it.
 mod arguments;
 mod file;
+mod layouts;
 mod making;
 mod output;
 mod problem;
@@ -9,7 +10,7 @@ mod storing;
 mod text;
 
 use arguments::{Arguments, Command};
-use btt::{AlignedBytes, Answer, Arena, OpenArena};
+use btt::{AlignedBytes, Arena, Layout, OpenArena};
 use output::print;
 use problem::Problem;
 use std::env;
@@ -36,15 +37,16 @@ fn run(arguments: Arguments) -> Result<(), Problem> {
     if !matches!(arguments.command, Command::Write { .. }) {
         output::must_be_open()?;
     }
-    match arguments.command {
+    let Arguments { command, file, layout } = arguments;
+    match command {
         Command::Help => print(arguments::HELP.as_bytes()),
         Command::Version => print(concat!("btt ", env!("CARGO_PKG_VERSION"), "\n").as_bytes()),
-        Command::Make(asked) => making::make(&arguments.file, &asked),
-        Command::Report => told(&arguments.file, text::report),
-        Command::Dump => told(&arguments.file, text::dump),
-        Command::Read { sector } => read(&arguments.file, sector),
-        Command::Write { sector } => write(&arguments.file, sector),
-        Command::Replay { log } => replay(&arguments.file, &log),
+        Command::Make(asked) => making::make(&file, &asked),
+        Command::Report => told(&file, layout, text::report),
+        Command::Dump => told(&file, layout, text::dump),
+        Command::Read { sector } => read(&file, layout, sector),
+        Command::Write { sector } => write(&file, layout, sector),
+        Command::Replay { log } => replay(&file, &log),
     }
 }
 
@@ -54,13 +56,14 @@ fn lent(bytes: &mut AlignedBytes) -> Arena<'_> {
 }
 
 /// Prints what is to be told of the arena in a file; the file is not changed.
-fn told(file: &OsStr, tell: fn(&mut AlignedBytes) -> (String, Result<(), Answer>)) -> Result<(), Problem> {
-    let (text, outcome) = tell(&mut file::load(file)?);
+fn told(file: &OsStr, layout: Layout, tell: fn(&mut AlignedBytes, Layout) -> text::Told) -> Result<(), Problem> {
+    let mut bytes = file::load(file)?;
+    let (text, outcome) = tell(&mut bytes, layout);
     print(text.as_bytes())?;
-    Ok(outcome?)
+    outcome.map_err(|answer| layouts::refused(&mut bytes, layout, answer))
 }
 
-/// Prints what a run log answers on the arena in a file; neither file is changed.
+/// Prints what a run log answers on the arena in a file, which a replay opens in its one layout; neither file is changed.
 fn replay(file: &OsStr, log: &OsStr) -> Result<(), Problem> {
     let (mut bytes, log) = (file::load(file)?, file::load(log)?);
     let (text, outcome) = text::replay(&mut bytes, &log);
@@ -69,20 +72,22 @@ fn replay(file: &OsStr, log: &OsStr) -> Result<(), Problem> {
 }
 
 /// Prints a sector; what opening mends it mends in memory, and the file is not changed.
-fn read(file: &OsStr, sector: u32) -> Result<(), Problem> {
+fn read(file: &OsStr, layout: Layout, sector: u32) -> Result<(), Problem> {
     let mut bytes = file::load(file)?;
-    let opened = OpenArena::open(lent(&mut bytes))?;
+    layouts::must_open(&mut bytes, layout)?;
+    let opened = OpenArena::open_in(layout, lent(&mut bytes))?;
     let mut buffer = vec![0; opened.sector_size()];
     opened.read_sector(sector, &mut buffer)?;
     print(&buffer)
 }
 
 /// Writes a sector from standard input. The lock is taken only when the input is there.
-fn write(file: &OsStr, sector: u32) -> Result<(), Problem> {
+fn write(file: &OsStr, layout: Layout, sector: u32) -> Result<(), Problem> {
     let file = file::Opened::to_write(file)?;
     let mut buffer = Vec::new();
     let input = io::stdin().take(LONGEST_SECTOR + 1).read_to_end(&mut buffer);
     input.map_err(|error| Problem::File(format!("standard input: {error}")))?;
     let (mut bytes, mut medium) = file.locked()?;
-    storing::write(&mut bytes, &mut medium, sector, &buffer)
+    layouts::must_open(&mut bytes, layout)?;
+    storing::write(&mut bytes, &mut medium, layout, sector, &buffer)
 }

@@ -1,5 +1,5 @@
 //! What can go wrong, and the exit status that tells it.
-use btt::Answer;
+use btt::{Answer, Layout};
 use std::fmt;
 use std::process::ExitCode;
 
@@ -8,6 +8,8 @@ use std::process::ExitCode;
 pub enum Problem {
     /// The library refused.
     Refused(Answer),
+    /// The library refused to open an arena that opens in this other layout.
+    OtherLayout(Answer, Layout),
     /// No arena is made for so many bytes: the library would refuse every length with 1.
     Room(String),
     /// The command line is not understood.
@@ -19,7 +21,7 @@ pub enum Problem {
 impl Problem {
     pub fn exit_code(&self) -> ExitCode {
         ExitCode::from(match self {
-            Problem::Refused(_) | Problem::Room(_) => 1,
+            Problem::Refused(_) | Problem::OtherLayout(..) | Problem::Room(_) => 1,
             Problem::Usage(_) => 2,
             Problem::File(_) => 3,
         })
@@ -36,6 +38,9 @@ impl fmt::Display for Problem {
     fn fmt(&self, f: &mut fmt::Formatter<'_>) -> fmt::Result {
         match self {
             Problem::Refused(answer) => write!(f, "refused {}: {answer}", answer.number()),
+            Problem::OtherLayout(answer, layout) => {
+                write!(f, "refused {}: {answer}; it opens with --layout {}", answer.number(), layout.bytes())
+            }
             Problem::Room(message) => write!(f, "refused {}: {message}", Answer::WrongLength.number()),
             Problem::Usage(message) => write!(f, "{message}\nbtt --help tells how it is used"),
             Problem::File(message) => f.write_str(message),

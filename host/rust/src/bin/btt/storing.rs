@@ -1,7 +1,7 @@
 //! A write to the file of an arena, store by store.
 use crate::lent;
 use crate::problem::Problem;
-use btt::{AlignedBytes, Answer, OpenArena, MAX_BLOCKS};
+use btt::{AlignedBytes, Answer, Layout, OpenArena, MAX_BLOCKS};
 use std::fs::File;
 use std::io;
 use std::os::unix::fs::FileExt;
@@ -30,10 +30,16 @@ fn failed(error: io::Error) -> Problem {
 }
 
 /// Writes a sector of the arena that the bytes hold and the medium has, mending first what opening mends. A refusal stores nothing.
-pub fn write(bytes: &mut AlignedBytes, medium: &mut impl Medium, sector: u32, buffer: &[u8]) -> Result<(), Problem> {
-    OpenArena::open(lent(&mut bytes.clone()))?.write_sector(sector, buffer)?;
-    mend(bytes, medium)?;
-    let mut opened = OpenArena::open(lent(bytes))?;
+pub fn write(
+    bytes: &mut AlignedBytes,
+    medium: &mut impl Medium,
+    layout: Layout,
+    sector: u32,
+    buffer: &[u8],
+) -> Result<(), Problem> {
+    OpenArena::open_in(layout, lent(&mut bytes.clone()))?.write_sector(sector, buffer)?;
+    mend(bytes, medium, layout)?;
+    let mut opened = OpenArena::open_in(layout, lent(bytes))?;
     let last = opened.handle().steps();
     // Being killed keeps the stores that were made, in their order, so the order is enough there. When the power goes, a disk may
     // have written any of the stores since the last synchronising. Data words and the first three words of a half may be there or not
@@ -51,12 +57,12 @@ pub fn write(bytes: &mut AlignedBytes, medium: &mut impl Medium, sector: u32, bu
 
 /// Makes the stores by which opening mends the arena, one after another, by openings that are cut after 1, 2 and so on of them. They
 /// are on the disk before a write takes one of the blocks that they give away.
-fn mend(bytes: &mut AlignedBytes, medium: &mut impl Medium) -> Result<(), Problem> {
+fn mend(bytes: &mut AlignedBytes, medium: &mut impl Medium, layout: Layout) -> Result<(), Problem> {
     let found = bytes.clone();
-    let pending = cut_open(&mut found.clone(), 0)?;
+    let pending = cut_open(&mut found.clone(), layout, 0)?;
     for k in 1..=pending {
         let mut next = found.clone();
-        cut_open(&mut next, k)?;
+        cut_open(&mut next, layout, k)?;
         for (offset, word) in changed(bytes, &next) {
             medium.store(offset, word).map_err(failed)?;
         }
@@ -68,8 +74,8 @@ fn mend(bytes: &mut AlignedBytes, medium: &mut impl Medium) -> Result<(), Proble
     Ok(())
 }
 
-fn cut_open(bytes: &mut AlignedBytes, k: u32) -> Result<u32, Answer> {
-    lent(bytes).cut_open(&mut vec![0; MAX_BLOCKS], k)
+fn cut_open(bytes: &mut AlignedBytes, layout: Layout, k: u32) -> Result<u32, Answer> {
+    lent(bytes).cut_open_in(layout, &mut vec![0; MAX_BLOCKS], k)
 }
 
 /// The words that differ, with their offsets.

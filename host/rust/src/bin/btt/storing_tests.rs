@@ -1,6 +1,6 @@
 //! Every cut of a write to a medium that stops after so many stores.
 use super::*;
-use btt::{Geometry, Identifiers};
+use btt::{Geometry, Identifiers, Layout};
 
 /// A medium in memory that fails after so many stores, and remembers what it was told.
 struct Cut {
@@ -37,18 +37,18 @@ fn made() -> AlignedBytes {
     bytes
 }
 
-fn sector(bytes: &AlignedBytes, sector: u32) -> [u8; 512] {
+fn sector(bytes: &AlignedBytes, layout: Layout, sector: u32) -> [u8; 512] {
     let mut bytes = bytes.clone();
     let mut buffer = [0; 512];
-    OpenArena::open(lent(&mut bytes)).unwrap().read_sector(sector, &mut buffer).unwrap();
+    OpenArena::open_in(layout, lent(&mut bytes)).unwrap().read_sector(sector, &mut buffer).unwrap();
     buffer
 }
 
 /// An arena with lanes 1 and 3 pending, to sectors 5 and 6.
-fn pending() -> AlignedBytes {
+fn pending(layout: Layout) -> AlignedBytes {
     let mut bytes = made();
     let mut arena = lent(&mut bytes);
-    let mut handle = arena.open(&mut [0; 64]).unwrap().handle;
+    let mut handle = arena.open_in(layout, &mut [0; 64]).unwrap().handle;
     for (lane, number) in [(1, 5), (3, 6)] {
         arena.start(&mut handle, lane, number).unwrap();
         for _ in 0..132 {
@@ -60,19 +60,19 @@ fn pending() -> AlignedBytes {
 
 #[test]
 fn a_write_cut_anywhere_is_old_or_new() {
-    for start in [made(), pending()] {
-        let before = sector(&start, 5);
+    for (layout, start) in Layout::ALL.into_iter().flat_map(|layout| [(layout, made()), (layout, pending(layout))]) {
+        let before = sector(&start, layout, 5);
         let all = 133 + if start == made() { 0 } else { 2 };
         for left in 0..=all {
             let mut medium = cut(&start, left);
-            let done = write(&mut start.clone(), &mut medium, 5, &[9; 512]);
+            let done = write(&mut start.clone(), &mut medium, layout, 5, &[9; 512]);
             assert_eq!(done.is_ok(), left == all);
             let expected = if left + 1 >= all { [9; 512] } else { before };
-            assert_eq!(sector(&medium.bytes, 5), expected, "{left} stores");
-            assert_eq!(sector(&medium.bytes, 6), sector(&start, 6));
+            assert_eq!(sector(&medium.bytes, layout, 5), expected, "{left} stores");
+            assert_eq!(sector(&medium.bytes, layout, 6), sector(&start, layout, 6));
             let mut memory = start.clone();
             if done.is_ok() {
-                write(&mut memory, &mut cut(&start, all), 5, &[9; 512]).unwrap();
+                write(&mut memory, &mut cut(&start, all), layout, 5, &[9; 512]).unwrap();
                 assert!(memory == medium.bytes, "memory and medium agree");
             }
         }
@@ -81,21 +81,25 @@ fn a_write_cut_anywhere_is_old_or_new() {
 
 #[test]
 fn the_medium_is_synchronised_around_the_sequence_word() {
-    let mut medium = cut(&made(), 133);
-    write(&mut made(), &mut medium, 7, &[9; 512]).unwrap();
-    let mut expected: Vec<Option<u64>> = (0..128).map(|word| Some(34_816 + 4 * word)).collect();
-    expected.extend([Some(40_976), Some(40_980), Some(40_984), None, Some(40_988), None, Some(36_892), None]);
-    assert_eq!(medium.told, expected);
+    for (layout, half) in [(Layout::Near, 40_976), (Layout::Far, 40_992)] {
+        let mut medium = cut(&made(), 133);
+        write(&mut made(), &mut medium, layout, 7, &[9; 512]).unwrap();
+        let mut expected: Vec<Option<u64>> = (0..128).map(|word| Some(34_816 + 4 * word)).collect();
+        expected.extend([Some(half), Some(half + 4), Some(half + 8), None, Some(half + 12), None, Some(36_892), None]);
+        assert_eq!(medium.told, expected);
+    }
 }
 
 #[test]
 fn mending_is_done_in_order_and_first() {
-    let mut medium = cut(&pending(), 135);
-    write(&mut pending(), &mut medium, 7, &[9; 512]).unwrap();
-    assert_eq!(medium.told[..4], [Some(36_864 + 4 * 5), Some(36_864 + 4 * 6), None, Some(4096 + 60 * 512)]);
-    assert_eq!(sector(&medium.bytes, 5), [5; 512]);
-    assert_eq!(sector(&medium.bytes, 6), [6; 512]);
-    assert_eq!(sector(&medium.bytes, 7), [9; 512]);
+    for layout in Layout::ALL {
+        let mut medium = cut(&pending(layout), 135);
+        write(&mut pending(layout), &mut medium, layout, 7, &[9; 512]).unwrap();
+        assert_eq!(medium.told[..4], [Some(36_864 + 4 * 5), Some(36_864 + 4 * 6), None, Some(4096 + 60 * 512)]);
+        assert_eq!(sector(&medium.bytes, layout, 5), [5; 512]);
+        assert_eq!(sector(&medium.bytes, layout, 6), [6; 512]);
+        assert_eq!(sector(&medium.bytes, layout, 7), [9; 512]);
+    }
 }
 
 #[test]
@@ -103,17 +107,24 @@ fn a_refusal_stores_nothing() {
     for (number, length, answer) in
         [(60, 512, Answer::NoSuchSector), (59, 511, Answer::WrongBuffer), (0, 513, Answer::WrongBuffer)]
     {
-        let mut medium = cut(&pending(), 1000);
-        let refused = write(&mut pending(), &mut medium, number, &vec![0; length]);
+        let found = pending(Layout::Near);
+        let mut medium = cut(&found, 1000);
+        let refused = write(&mut found.clone(), &mut medium, Layout::Near, number, &vec![0; length]);
         assert!(matches!(refused, Err(Problem::Refused(found)) if found == answer));
-        assert!(medium.told.is_empty() && medium.bytes == pending());
+        assert!(medium.told.is_empty() && medium.bytes == found);
     }
-    // The map word of sector 59, and padding of lane 0.
-    for at in [36_864 + 4 * 59, 40_960 + 32] {
-        let mut sloppy = pending();
+    // The map word of sector 59, padding of lane 0, and nothing: the arena is of the other layout.
+    for (layout, told, at) in [
+        (Layout::Near, Layout::Near, 36_864 + 4 * 59),
+        (Layout::Near, Layout::Near, 40_960 + 32),
+        (Layout::Far, Layout::Far, 40_960 + 16),
+        (Layout::Near, Layout::Far, 4096),
+        (Layout::Far, Layout::Near, 4096),
+    ] {
+        let mut sloppy = pending(layout);
         sloppy[at] = 1;
         let mut medium = cut(&sloppy, 1000);
-        let refused = write(&mut sloppy, &mut medium, 7, &[0; 512]);
+        let refused = write(&mut sloppy, &mut medium, told, 7, &[0; 512]);
         assert!(matches!(refused, Err(Problem::Refused(Answer::Sloppy))));
         assert!(medium.told.is_empty() && medium.bytes == sloppy);
     }

@@ -1,10 +1,10 @@
 //! What is told of an arena.
 use crate::lent;
-use btt::{AlignedBytes, Answer, Arena, Handle, Opened, MAX_BLOCKS};
+use btt::{AlignedBytes, Answer, Arena, Handle, Layout, Opened, MAX_BLOCKS};
 use std::fmt::Write;
 
 /// A text, and whether the arena was opened.
-type Told = (String, Result<(), Answer>);
+pub type Told = (String, Result<(), Answer>);
 
 /// Adds a line. Writing to a string cannot fail.
 macro_rules! line {
@@ -14,14 +14,14 @@ macro_rules! line {
 }
 
 /// Opens an arena in memory.
-fn opened(arena: &mut Arena) -> Result<Opened, Answer> {
-    arena.open(&mut vec![0; MAX_BLOCKS])
+fn opened(arena: &mut Arena, layout: Layout) -> Result<Opened, Answer> {
+    arena.open_in(layout, &mut vec![0; MAX_BLOCKS])
 }
 
-/// The report on an arena, as the program report of the repository gives it, for arenas of every length.
-pub fn report(bytes: &mut AlignedBytes) -> Told {
+/// The report on an arena, as the program report of the repository gives it, for arenas of every length and of both layouts.
+pub fn report(bytes: &mut AlignedBytes, layout: Layout) -> Told {
     let mut text = String::new();
-    let outcome = opened(&mut lent(bytes)).map(|Opened { handle, mended }| {
+    let outcome = opened(&mut lent(bytes), layout).map(|Opened { handle, mended }| {
         line!(text, "sector bytes {}", handle.size);
         line!(text, "sectors {}", handle.sectors);
         line!(text, "lanes {}", handle.lanes);
@@ -51,7 +51,7 @@ fn refused(text: &mut String, outcome: Result<(), Answer>) {
 }
 
 /// Everything that there is to see of an arena but the sectors' bytes.
-pub fn dump(bytes: &mut AlignedBytes) -> Told {
+pub fn dump(bytes: &mut AlignedBytes, layout: Layout) -> Told {
     let mut text = String::new();
     line!(text, "length {}", bytes.len());
     let mut arena = lent(bytes);
@@ -59,7 +59,7 @@ pub fn dump(bytes: &mut AlignedBytes) -> Told {
         Some(block) => line!(text, "info block at {}", block.as_ptr().addr() - arena.bytes().as_ptr().addr()),
         None => line!(text, "info block none"),
     }
-    let outcome = opened(&mut arena).and_then(|Opened { handle, mended }| {
+    let outcome = opened(&mut arena, layout).and_then(|Opened { handle, mended }| {
         figures(&mut text, &handle);
         line!(text, "mended {mended}");
         lanes(&mut text, &arena, &handle)?;
