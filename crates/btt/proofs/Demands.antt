@@ -5,7 +5,7 @@ use Prim.Native.Nat.{ℕ}
 use Rattle.words.specs.Bytes.{Small}
 use Rattle.layout.specs.Told.{alone}
 use Rattle.machine.specs.calls.Opening.{figuresIn, openOf}
-use Rattle.machine.specs.calls.History.{Call, State, Event, SmallEvents, openedFrom}
+use Rattle.machine.specs.calls.History.{Call, read, start, step, write, State, Event, SmallEvents, openedFrom}
 use Rattle.machine.specs.calls.Asides.{Happening, latest, latestOf, afterOne, AllHarmless}
 use Rattle.machine.specs.models.Row.{Keeping, wordByWord, lastBuffer, OneBuffer, firstRow}
 use Rattle.machine.specs.models.Book.{bookAfter}
@@ -16,8 +16,10 @@ use Rattle.machine.proofs.invariant.Histories.{held-small}
 use Rattle.machine.proofs.invariant.Asides.{latest-state, latest-heard}
 use Rattle.machine.proofs.row.DemandTwo.{demand-two}
 use Rattle.machine.proofs.book.DemandThree.{demand-three}
-use Rattle.btt.specs.Calls.{bttOpenOf}
-use Rattle.btt.specs.HostList.{HostState, openedHost, StandsFor, SameEvents}
+use Rattle.machine.specs.claims.Rest.{RestKept}
+use Rattle.machine.proofs.calls.Rest.{rest-of-blocks}
+use Rattle.btt.specs.Calls.{handleIn, bttOf, bttOpenOf}
+use Rattle.btt.specs.HostList.{HostState, openedHost, hostAfter, StandsFor, SameEvents}
 use Rattle.btt.specs.HostDemands.{HostFollowsRow, HostBooked, HostPromised, HostDemands}
 use Rattle.btt.proofs.Fits.{layout-held}
 use Rattle.btt.proofs.Same.{read-same}
@@ -89,5 +91,18 @@ module _ (d : ℕ) (y : HostState) (x : State) (cs : List Call) (bytes : ℕ →
         (sym (calls-same y x p k .leaves .arena)) (promised .cut p rest e work u);
   }
 
+-- ---- the rest of a block: a host's call leaves the machine's arena
+
+host-rest : (y : HostState) (c : Call) → Small (y .arena) → RestKept (handleIn (y .handle) .figures) (y .arena) ((hostAfter y c) .arena)
+unfolding bttOf
+host-rest y (read s buffer) small = rest-of-blocks .calls (y .arena) (handleIn (y .handle)) (read s buffer) small
+host-rest y (start l s) small = rest-of-blocks .calls (y .arena) (handleIn (y .handle)) (start l s) small
+host-rest y (step l buffer) small = rest-of-blocks .calls (y .arena) (handleIn (y .handle)) (step l buffer) small
+host-rest y (write l s buffer) small = rest-of-blocks .calls (y .arena) (handleIn (y .handle)) (write l s buffer) small
+
+host-rest-opening : (d : ℕ) (a work : List ℕ) → Small a → RestKept (figuresIn a) a ((bttOpenOf d a work) .arena)
+unfolding bttOpenOf
+host-rest-opening d a work small = rest-of-blocks .opening d a work small
+
 pub host-demands : HostDemands
-host-demands = record { two-words = host-words; two = host-one; three = host-promised }
+host-demands = record { two-words = host-words; two = host-one; three = host-promised; rest = host-rest; rest-opening = host-rest-opening }

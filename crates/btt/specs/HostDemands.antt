@@ -1,4 +1,4 @@
--- Demands 2 and 3 for lists that a host makes through the library (alone d).
+-- Demands 2 and 3 for lists that a host makes through the library alone, and the rest of each block, which no call of a host changes.
 use mathlib.Core.Path.{_≡_}
 use mathlib.Core.List.{List, [], _++_}
 use Prim.Native.Nat.{ℕ, _≤_}
@@ -10,9 +10,10 @@ use Rattle.machine.specs.calls.Opening.{figuresIn, layoutIn, openOf}
 use Rattle.machine.specs.calls.History.{Call, State, Event, SmallEvents, openedFrom}
 use Rattle.machine.specs.models.Row.{Keeping, wordByWord, lastBuffer, rowRead, rowAfterAll, rowReplies, OneBuffer, firstRow}
 use Rattle.machine.specs.models.Book.{bookAfter, bookReplies, kept}
+use Rattle.machine.specs.claims.Rest.{RestKept}
 use Rattle.machine.specs.claims.DemandThree.{SameMembers, takenApart, Listed, AfterCut}
-use Rattle.btt.specs.Calls.{bttOpenOf, bttReadOf}
-use Rattle.btt.specs.HostList.{HostState, openedHost, hostRun, hostReplies, hostRunEvents, hostReplyEvents, StandsFor}
+use Rattle.btt.specs.Calls.{handleIn, bttOpenOf, bttReadOf}
+use Rattle.btt.specs.HostList.{HostState, openedHost, hostAfter, hostRun, hostReplies, hostRunEvents, hostReplyEvents, StandsFor}
 
 -- ---- demand 2
 
@@ -55,3 +56,6 @@ pub record HostDemands : Type 0 where
   -- a host whose bytes hold the handle of such an arena, all lanes idle, and a list as demand 3 has it
   pub three : (d : ℕ) (y : HostState) (x : State) (cs : List Call) (bytes : ℕ → List ℕ) → StandsFor y x → Listed (alone d) x cs bytes
       → HostPromised d y x cs bytes
+  -- any bytes as arena and handle: a call leaves the rest of each block, by the figures that the handle's bytes hold; an opening by the arena's
+  pub rest : (y : HostState) (c : Call) → Small (y .arena) → RestKept (handleIn (y .handle) .figures) (y .arena) ((hostAfter y c) .arena)
+  pub rest-opening : (d : ℕ) (a work : List ℕ) → Small a → RestKept (figuresIn a) a ((bttOpenOf d a work) .arena)

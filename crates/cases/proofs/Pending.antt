@@ -16,6 +16,7 @@ use Rattle.format.specs.Sequence.{newer, successor}
 use Rattle.format.specs.MapWord.{blockOf}
 use Rattle.format.proofs.Below.{Below, below-test}
 use Rattle.layout.specs.Figures.{freshFigures}
+use Rattle.layout.specs.Sizes.{internalOf}
 use Rattle.layout.specs.Place.{layoutOf}
 use Rattle.machine.specs.state.Flog.{mapWord, flogWord, newerHalf, newerWord, freeOf, pending}
 use Rattle.machine.specs.state.Stores.{putAll}
@@ -30,7 +31,7 @@ size = made .bytes .size ∙ length-replicate {A = ℕ} 49152 0
 
 -- every map word of the made arena is zero
 fresh-map : (s : ℕ) → s < 60 → word exhibitFound (9216 + s) ≡ 0
-unfolding freshFigures
+unfolding freshFigures internalOf
 fresh-map s u = word-at exhibitFound (9216 + s) (36864 + 4 * s) (omega arith) ∙ made .map s u
 
 module _ (w x : ℕ) (half0 half1 : List ℕ) (small : w < 4294967296) (count : length (flogWords x half0 half1) ≡ 64)
@@ -45,11 +46,11 @@ module _ (w x : ℕ) (half0 half1 : List ℕ) (small : w < 4294967296) (count : 
   size-b = length-putWord exhibitFound 9223 w ∙ size
 
   size-a : length a ≡ 49152
-  unfolding found layoutOf freshFigures
+  unfolding found layoutOf freshFigures internalOf
   size-a = length-putWords (flogWords x half0 half1) b 10240 ∙ size-b
 
   map-out : (s : ℕ) → s < 60 → mapWord laid a s ≡ word b (9216 + s)
-  unfolding found layoutOf freshFigures
+  unfolding found layoutOf freshFigures internalOf
   map-out s u = word-putWords-out (flogWords x half0 half1) b 10240 (9216 + s) (inl (omega arith))
 
   map-7 : mapWord laid a 7 ≡ w
@@ -59,7 +60,7 @@ module _ (w x : ℕ) (half0 half1 : List ℕ) (small : w < 4294967296) (count : 
   map-other s u n = map-out s u ∙ word-putWord-other exhibitFound 9223 (9216 + s) w (λ e. n (omega arith)) ∙ fresh-map s u
 
   flog-at : (k : ℕ) → k < 64 → word a (10240 + k) ≡ getD (flogWords x half0 half1) k 0
-  unfolding found layoutOf freshFigures
+  unfolding found layoutOf freshFigures internalOf
   flog-at k u = word-putWords-in (flogWords x half0 half1) b 10240 k (omega (arith, size-b, count)) below (omega (arith, count))
 
   -- which half of lane l is the newer, by the two sequences
@@ -76,7 +77,7 @@ module _ (w x : ℕ) (half0 half1 : List ℕ) (small : w < 4294967296) (count : 
   -- the map word of sector 7 where no lane is pending
   none-mended : pending laid a 0 ≡ false → pending laid a 1 ≡ false → pending laid a 2 ≡ false → pending laid a 3 ≡ false
       → mapWord laid (mended laid a) 7 ≡ w
-  unfolding mends putAll layoutOf freshFigures
+  unfolding mends putAll layoutOf freshFigures internalOf
   none-mended p q r s = rw (p, q, r, s) map-7
 
   -- lanes 1 to 3 as making leaves them: lane l names sector l, whose block is l, and E + l is free
@@ -99,40 +100,40 @@ module _ (w x : ℕ) (small : w < 4294967296) (first : newer x 2 ≡ 1) (below :
   word-c = flog-at w x half7 unset small refl below
 
   newer-0 : newerHalf laid c 0 ≡ 1
-  unfolding layoutOf freshFigures
+  unfolding layoutOf freshFigures internalOf
   newer-0 = newer-of w x half7 unset small refl below 0 x 2 (word-c 3 (omega arith)) (word-c 7 (omega arith)) ∙ first
 
   pending-0 : pending laid c 0 ≡ eqb (blockOf 7 w) 7
-  unfolding layoutOf freshFigures
+  unfolding layoutOf freshFigures internalOf
   pending-0 =
       pending-by w x half7 unset small refl below 0 1 7 7 w newer-0 (word-c 4 (omega arith)) (word-c 5 (omega arith))
       (map-7 w x half7 unset small refl below)
 
   free-0 : freeOf laid c 0 ≡ 7
-  unfolding layoutOf freshFigures
+  unfolding layoutOf freshFigures internalOf
   free-0 = rw newer-0 (word-c 5 (omega arith))
 
   pending-1 : pending laid c 1 ≡ false
-  unfolding layoutOf freshFigures
+  unfolding layoutOf freshFigures internalOf
   pending-1 =
       fresh-lane w x half7 unset small refl below 1 (omega arith) (λ e. omega arith) (word-c 16 (omega arith)) (word-c 17 (omega arith))
       (word-c 19 (omega arith)) (word-c 23 (omega arith))
 
   pending-2 : pending laid c 2 ≡ false
-  unfolding layoutOf freshFigures
+  unfolding layoutOf freshFigures internalOf
   pending-2 =
       fresh-lane w x half7 unset small refl below 2 (omega arith) (λ e. omega arith) (word-c 32 (omega arith)) (word-c 33 (omega arith))
       (word-c 35 (omega arith)) (word-c 39 (omega arith))
 
   pending-3 : pending laid c 3 ≡ false
-  unfolding layoutOf freshFigures
+  unfolding layoutOf freshFigures internalOf
   pending-3 =
       fresh-lane w x half7 unset small refl below 3 (omega arith) (λ e. omega arith) (word-c 48 (omega arith)) (word-c 49 (omega arith))
       (word-c 51 (omega arith)) (word-c 55 (omega arith))
 
   -- lane 0 pending: its map word gets flags 11 and block 60
   mended-0 : pending laid c 0 ≡ true → mapWord laid (mended laid c) 7 ≡ 0xC000003C
-  unfolding mends putAll layoutOf freshFigures
+  unfolding mends putAll layoutOf freshFigures internalOf
   mended-0 p =
       let s : newerWord laid c 0 0 ≡ 7 = rw newer-0 (word-c 4 (omega arith)) in
       let n : newerWord laid c 0 2 ≡ 60 = rw newer-0 (word-c 6 (omega arith)) in
@@ -175,11 +176,11 @@ unfolding newer successor
 newer-d l e f = newer-of 0xC000003D 1 half7 half8 (omega arith) refl below-8 l 1 2 e f
 
 newer-d0 : newerHalf laid d 0 ≡ 1
-unfolding layoutOf freshFigures
+unfolding layoutOf freshFigures internalOf
 newer-d0 = newer-d 0 (word-d 3 (omega arith)) (word-d 7 (omega arith))
 
 newer-d1 : newerHalf laid d 1 ≡ 1
-unfolding layoutOf freshFigures
+unfolding layoutOf freshFigures internalOf
 newer-d1 = newer-d 1 (word-d 19 (omega arith)) (word-d 23 (omega arith))
 
 named-d : (l o : ℕ) → newerHalf laid d l ≡ 1 → flogWord laid d l 1 0 ≡ 7 → flogWord laid d l 1 1 ≡ o
@@ -190,31 +191,31 @@ named-d l o n s e =
     (map-7 0xC000003D 1 half7 half8 (omega arith) refl below-8)
 
 pending-d0 : pending laid d 0 ≡ false
-unfolding layoutOf freshFigures
+unfolding layoutOf freshFigures internalOf
 pending-d0 = named-d 0 7 newer-d0 (word-d 4 (omega arith)) (word-d 5 (omega arith))
 
 pending-d1 : pending laid d 1 ≡ false
-unfolding layoutOf freshFigures
+unfolding layoutOf freshFigures internalOf
 pending-d1 = named-d 1 60 newer-d1 (word-d 20 (omega arith)) (word-d 21 (omega arith))
 
 pending-d2 : pending laid d 2 ≡ false
-unfolding layoutOf freshFigures
+unfolding layoutOf freshFigures internalOf
 pending-d2 =
     fresh-lane 0xC000003D 1 half7 half8 (omega arith) refl below-8 2 (omega arith) (λ e. omega arith) (word-d 32 (omega arith))
     (word-d 33 (omega arith)) (word-d 35 (omega arith)) (word-d 39 (omega arith))
 
 pending-d3 : pending laid d 3 ≡ false
-unfolding layoutOf freshFigures
+unfolding layoutOf freshFigures internalOf
 pending-d3 =
     fresh-lane 0xC000003D 1 half7 half8 (omega arith) refl below-8 3 (omega arith) (λ e. omega arith) (word-d 48 (omega arith))
     (word-d 49 (omega arith)) (word-d 51 (omega arith)) (word-d 55 (omega arith))
 
 free-d0 : freeOf laid d 0 ≡ 7
-unfolding layoutOf freshFigures
+unfolding layoutOf freshFigures internalOf
 free-d0 = rw newer-d0 (word-d 5 (omega arith))
 
 free-d1 : freeOf laid d 1 ≡ 60
-unfolding layoutOf freshFigures
+unfolding layoutOf freshFigures internalOf
 free-d1 = rw newer-d1 (word-d 21 (omega arith))
 
 pub case-8 : AllDue case8

@@ -1,5 +1,5 @@
 -- The worked figures of document 01 that are marked to be proved, cases 1 to 8, as one table of values computed and values due; beside them
--- the bytes of case 9 and of its twin in the other layout.
+-- the bytes of case 9, of its twin in the other layout, and of such a write in sectors that are shorter than their blocks.
 use mathlib.Core.Bool.{cond}
 use mathlib.Core.List.{List, [], _∷_, _++_}
 use Prim.Native.Nat.{ℕ, _+_, _-_, _*_}
@@ -10,10 +10,13 @@ use Rattle.format.specs.MapWord.{flagsOf, readingOf, blockOf, sloppyWord}
 use Rattle.layout.specs.Figures.{freshFigures, freshLength}
 use Rattle.layout.specs.Place.{layoutOf, at}
 use Rattle.layout.specs.Told.{alone}
+use Rattle.machine.specs.calls.Making.{makeNumber}
 use Rattle.machine.specs.calls.Opening.{openOf}
 use Rattle.machine.specs.calls.Reading.{readOf}
 use Rattle.machine.specs.calls.Writing.{planOf, storeAt, startOf, writeOf}
 use Rattle.machine.specs.declared.lane.Lane.{Lane}
+use Rattle.machine.specs.state.Lane.{writeStores}
+use Rattle.machine.specs.claims.Making.{smallest}
 use Rattle.machine.specs.claims.Exhibit.{exhibitWork, exhibitState, exhibitSloppy}
 use Rattle.cases.specs.Worked.{Worked, _is_}
 use Rattle.cases.specs.Pending.{case6, case7, case8}
@@ -75,11 +78,19 @@ case5 =
     ((freshFigures 512 60 4) .mapoff is 36864) ∷ ((freshFigures 512 60 4) .flogoff is 40960) ∷ ((freshFigures 512 60 4) .copyoff is 45056)
     ∷ (freshLength 512 60 4 is 49152) ∷ (freshLength 512 1 1 is 20480) ∷ (freshLength 4096 1 1 is 24576) ∷ []
 
--- case 9's write: to sector 7 on lane 0 of the arena of case 5, into its second half
-abbrev pub written : Lane
-written = record {
+-- beside case 5: sectors that are shorter than their blocks, and sizes of blocks that are no sizes of sectors
+abbrev pub case5-sizes : List Worked
+case5-sizes =
+    ((freshFigures 520 61 4) .mapoff is 45056) ∷ (freshLength 520 61 4 is 57344) ∷ (freshLength 528 61 4 is 57344)
+    ∷ ((freshFigures 4104 61 4) .mapoff is 278528) ∷ (freshLength 4104 61 4 is 290816)
+    ∷ (makeNumber (smallest 520) 20480 is 0) ∷ (makeNumber (smallest 528) 20480 is 0) ∷ (makeNumber (smallest 4104) 28672 is 0)
+    ∷ (makeNumber (smallest 576) 20480 is 3) ∷ (makeNumber (smallest 4160) 28672 is 3) ∷ []
+
+-- case 9's write: to sector 7 on lane 0 of a made arena of so many sectors, into its second half
+abbrev pub written : ℕ → Lane
+written sectors = record {
   busy = 1;
-  block = record { 0 = 60 };
+  block = record { 0 = sectors };
   half = 1;
   sequence = record { 0 = 2 };
   sector = record { 0 = 7 };
@@ -87,17 +98,30 @@ written = record {
   made = 0;
 }
 
--- the byte of its store k, counted from 1, by the places of the machine
-abbrev pub storedAt : ℕ → ℕ → ℕ
-storedAt d k = let g = layoutOf d (freshFigures 512 60 4) in 4 * at g (storeAt g (planOf 0 written) [] (k - 1) .place)
+-- the byte of its store k, counted from 1, by the places of the machine: 4 lanes, in a layout
+abbrev pub storedAt : ℕ → ℕ → ℕ → ℕ → ℕ
+storedAt size sectors d k = let g = layoutOf d (freshFigures size sectors 4) in 4 * at g (storeAt g (planOf 0 (written sectors)) [] (k - 1) .place)
 
 -- beside case 9: where its stores go in a layout, of which the first into the half is at byte o
 abbrev pub case9-bytes : ℕ → ℕ → List Worked
 case9-bytes d o =
-    (storedAt d 1 is 34816) ∷ (storedAt d 128 is 35324) ∷ (storedAt d 129 is o) ∷ (storedAt d 130 is o + 4) ∷ (storedAt d 131 is o + 8)
-    ∷ (storedAt d 132 is o + 12) ∷ (storedAt d 133 is 36892) ∷ []
+    let store = storedAt 512 60 d in
+    (store 1 is 34816) ∷ (store 128 is 35324) ∷ (store 129 is o) ∷ (store 130 is o + 4) ∷ (store 131 is o + 8) ∷ (store 132 is o + 12)
+    ∷ (store 133 is 36892) ∷ []
+
+-- beside case 9: of 61 sectors of a size, how many stores there are, and the bytes of the first and the last data word, of the first word of the
+-- half and of the map word
+abbrev pub case9-sized : ℕ → ℕ → ℕ → ℕ → ℕ → ℕ → List Worked
+case9-sized size n first last half map =
+    let store = storedAt size 61 16 in
+    (writeStores (layoutOf 16 (freshFigures size 61 4)) is n) ∷ (store 1 is first) ∷ (store (n - 5) is last) ∷ (store (n - 4) is half)
+    ∷ (store n is map) ∷ []
+
+abbrev pub case9-sizes : List Worked
+case9-sizes =
+    case9-sized 520 135 39232 39748 49168 45084 ++ (case9-sized 528 137 39232 39756 49168 45084 ++ case9-sized 4104 1031 257856 261956 282640 278556)
 
 unfoldable pub table : List Worked
 table =
-    case1 ++ (case2 ++ (case3 ++ (case3-bits ++ (case4 ++ (case4-turns ++ (case5 ++ (case9-bytes 16 40976 ++ (case9-bytes 32 40992
-    ++ (case3-refused 16 ++ (case3-refused 32 ++ (case6 1 ++ (case6 0 ++ (case7 1 ++ (case7 0 ++ case8))))))))))))))
+    case1 ++ (case2 ++ (case3 ++ (case3-bits ++ (case4 ++ (case4-turns ++ (case5 ++ (case5-sizes ++ (case9-sizes ++ (case9-bytes 16 40976 ++ (case9-bytes 32 40992
+    ++ (case3-refused 16 ++ (case3-refused 32 ++ (case6 1 ++ (case6 0 ++ (case7 1 ++ (case7 0 ++ case8))))))))))))))))

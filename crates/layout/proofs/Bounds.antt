@@ -1,15 +1,15 @@
 -- Which figures are in order, one law for each outcome, and bounds on what making works out, so that no sum wraps.
 use mathlib.Core.Path.{_≡_}
-use mathlib.Core.Logic.{_⊎_, inl, inr}
 use mathlib.Core.Bool.{true, false, and-true, and-false}
 use Prim.Native.Nat.{ℕ, _+_, _*_, _%_, _≤_, _<_}
 use native.Mathlib.Omega.{arith}
 use native.Mathlib.Nat.{mul-le-mul-left, mul-le-mul-right, le-trans}
 use lib.Dec.{eqb, leb}
 use borrow.Author.Tests.{lt-leb, le-leb, eq-eqb, ne-eqb}
-use Rattle.layout.specs.Figures.{sizesAllowed, startsAligned, partsInOrder, figuresAllowed, internalOf, freshLength}
+use Rattle.layout.specs.Sizes.{internalOf}
+use Rattle.layout.specs.Figures.{countsAllowed, sizesAllowed, startsAligned, partsInOrder, figuresAllowed, freshLength}
 use Rattle.layout.specs.declared.Figures.{Figures}
-use Rattle.layout.proofs.Allowed.{sizes-of}
+use Rattle.layout.proofs.Sizes.{size-fitting, sizes-of}
 
 pub product : (a b m n : ℕ) → a ≤ m → b ≤ n → a * b ≤ m * n
 product a b m n h k = le-trans (mul-le-mul-left a k) (mul-le-mul-right n h)
@@ -38,9 +38,13 @@ module _ (f : Figures) (n : ℕ) where
         and-true,
       )
 
-  pub sizes-wrong : sizesAllowed (f .size) (f .sectors) (f .lanes) ≡ false → figuresAllowed f n ≡ false
+  pub size-wrong : internalOf (f .size) ≡ 0 → figuresAllowed f n ≡ false
   unfolding figuresAllowed
-  sizes-wrong h = rw h
+  size-wrong h = rw (eq-eqb (internalOf (f .size)) 0 h)
+
+  pub counts-wrong : countsAllowed (f .sectors) (f .lanes) ≡ false → figuresAllowed f n ≡ false
+  unfolding figuresAllowed
+  counts-wrong h = rw h (simp and-false)
 
   pub internal-wrong : (f .internal ≡ internalOf (f .size) → ⊥) → figuresAllowed f n ≡ false
   unfolding figuresAllowed
@@ -54,24 +58,20 @@ module _ (f : Figures) (n : ℕ) where
   unfolding figuresAllowed
   starts-wrong h = rw h (simp and-false)
 
-  pub figures-right : sizesAllowed (f .size) (f .sectors) (f .lanes) ≡ true → f .internal ≡ internalOf (f .size)
+  pub figures-right : (internalOf (f .size) ≡ 0 → ⊥) → f .internal ≡ internalOf (f .size) → countsAllowed (f .sectors) (f .lanes) ≡ true
       → f .blocks ≡ f .sectors + f .lanes → startsAligned f ≡ true → figuresAllowed f n ≡ partsInOrder f n
   unfolding figuresAllowed
-  figures-right a b c d = rw (a, d, eq-eqb (f .internal) (internalOf (f .size)) b, eq-eqb (f .blocks) (f .sectors + f .lanes) c)
+  figures-right a b c d e =
+      rw (ne-eqb (internalOf (f .size)) 0 a, c, e, eq-eqb (f .internal) (internalOf (f .size)) b, eq-eqb (f .blocks) (f .sectors + f .lanes) d)
 
 pub aligned : (f : Figures) → f .dataoff % 4096 ≡ 0 → f .mapoff % 4096 ≡ 0 → f .flogoff % 4096 ≡ 0
     → startsAligned f ≡ eqb (f .copyoff % 4096) 0
 aligned f a b c = rw (eq-eqb (f .dataoff % 4096) 0 a, eq-eqb (f .mapoff % 4096) 0 b, eq-eqb (f .flogoff % 4096) 0 c, and-true)
 
--- the internal size of an allowed sector size is at most 8,192
-internal-small : (s : ℕ) → (s ≡ 512) ⊎ (s ≡ 4096) → internalOf s ≤ 8192
-internal-small s (inl e) = rw e (omega arith)
-internal-small s (inr e) = rw e (omega arith)
-
 module _ (size sectors lanes : ℕ) where
   -- at most 16 lanes, and blocks of at most 8,192 bytes
   pub sizes-small : sizesAllowed size sectors lanes ≡ true → (internalOf size ≤ 8192) × (lanes ≤ 16)
-  sizes-small h = let s = sizes-of size sectors lanes h in (internal-small size (s .0), s .3)
+  sizes-small h = let s = sizes-of size sectors lanes h in (size-fitting size (s .0) .block-most, s .3)
 
   -- the bytes of all blocks, z each
   pub data-small : sizesAllowed size sectors lanes ≡ true → sectors < 4294967296 → (z : ℕ) → z ≡ internalOf size

@@ -1,14 +1,16 @@
 -- The claims about figures: from the tests taken apart, from the sums that making rounds up, and from places in bytes.
 use mathlib.Core.Path.{_≡_, refl}
 use mathlib.Core.Logic.{_⊎_, inl, inr, ⊎-elim}
-use mathlib.Core.Bool.{true}
-use mathlib.Core.List.{List}
+use mathlib.Core.Bool.{Bool, true}
+use mathlib.Core.List.{List, [], _∷_}
 use Prim.Native.Nat.{ℕ, _+_, _*_, _/_, _%_, _≤_, _<_}
 use native.Mathlib.Omega.{arith}
-use lib.Dec.{eqb, leb}
-use borrow.Author.Tests.{eqb-true, leb-true, eq-eqb, le-leb}
+use lib.Dec.{eqb, leb, ltb}
+use borrow.Author.Tests.{eqb-true, leb-true, ltb-true, eq-eqb, le-leb}
 use Rattle.words.proofs.Bytes.{word-at, long-at}
-use Rattle.format.proofs.Tests.{and-elim}
+use Rattle.format.specs.Tests.{allOf}
+use Rattle.format.proofs.Tests.{and-elim, all-elim}
+use Rattle.layout.specs.Sizes.{internalOf, sizeAllowed}
 use Rattle.layout.specs.Figures.{
   lengthAllowed,
   sizesAllowed,
@@ -21,9 +23,10 @@ use Rattle.layout.specs.Figures.{
   figuresAt,
 }
 use Rattle.layout.specs.Place.{layoutOf}
-use Rattle.layout.specs.Claims.{Length, Sizes, Distance, InPadding, LeastMultiple, FreshLayout, Places, FiguresFrom, AllowedClaim, FreshLayoutClaim, PlacesClaim}
+use Rattle.layout.specs.Claims.{Length, Sizes, Distance, InPadding, LeastMultiple, FreshLayout, Places, FiguresFrom, SizesClaim, AllowedClaim, FreshLayoutClaim, PlacesClaim}
 use Rattle.layout.specs.declared.Figures.{Figures}
-use Rattle.layout.proofs.Allowed.{sizes-of, of-sizes, distance-of, of-distance, distance-ok, size-words, starts-exact, allowed-of, of-allowed, made-allowed}
+use Rattle.layout.proofs.Allowed.{size-pair, pair-size, distance-of, of-distance, distance-ok, size-words, starts-exact, allowed-of, of-allowed, made-allowed}
+use Rattle.layout.proofs.Sizes.{by-table, sizes-of, of-sizes}
 use Rattle.layout.proofs.Offsets.{data-start, map-start, flog-start, lane-start}
 use Rattle.layout.proofs.Padding.{padding-byte, byte-padding}
 
@@ -39,10 +42,25 @@ is-length n l = rw (eq-eqb _ _ (l .multiple), le-leb _ _ (l .least), le-leb _ _ 
 sizes-are : (size sectors lanes : ℕ) → sizesAllowed size sectors lanes ≡ true → Sizes size sectors lanes
 sizes-are size sectors lanes e =
     let h = sizes-of size sectors lanes e in
-    record { size = h .0; sectors = h .1; some-lane = h .2; few-lanes = h .3 }
+    record { size = (internalOf size, size-pair size (h .0)); sectors = h .1; some-lane = h .2; few-lanes = h .3 }
 
 are-sizes : (size sectors lanes : ℕ) → Sizes size sectors lanes → sizesAllowed size sectors lanes ≡ true
-are-sizes size sectors lanes s = of-sizes size sectors lanes (s .size) (s .sectors) (s .some-lane) (s .few-lanes)
+are-sizes size sectors lanes s = of-sizes size sectors lanes (pair-size size (s .size .0) (s .size .1) .0) (s .sectors) (s .some-lane) (s .few-lanes)
+
+-- rounding up, in numbers
+rounded : ℕ → ℕ → Bool
+rounded n m = allOf (eqb (m % 64) 0 ∷ leb n m ∷ ltb m (n + 64) ∷ [])
+
+size-rounded : (size : ℕ) → sizeAllowed size ≡ true → LeastMultiple 64 size (internalOf size)
+unfolding rounded
+size-rounded size e =
+    let z = internalOf size in
+    let h = all-elim (eqb (z % 64) 0 ∷ leb size z ∷ ltb z (size + 64) ∷ [])
+    (by-table (λ S Z. rounded S Z ≡ true) (refl, (refl, (refl, (refl, (refl, tt))))) size e) in
+    record { multiple = eqb-true _ _ (h .0); enough = leb-true _ _ (h .1 .0); least = ltb-true _ _ (h .1 .1 .0) }
+
+pub sizes-claim : SizesClaim
+sizes-claim = record { pairs = size-pair; pairs-back = pair-size; rounded = size-rounded }
 
 pub allowed-claim : AllowedClaim
 allowed-claim =
@@ -57,20 +75,20 @@ allowed-claim =
       figures-back = of-allowed;
     }
 
-least-multiple : (n : ℕ) → LeastMultiple n (roundUp n)
+least-multiple : (n : ℕ) → LeastMultiple 4096 n (roundUp n)
 least-multiple n = record { multiple = omega arith; enough = omega arith; least = omega arith }
 
-made-is : (size sectors lanes : ℕ) → FreshLayout size sectors lanes (freshFigures size sectors lanes) (freshLength size sectors lanes)
+made-is : (size sectors lanes : ℕ) → Sizes size sectors lanes → FreshLayout size sectors lanes (freshFigures size sectors lanes) (freshLength size sectors lanes)
 unfolding freshFigures freshLength
-made-is size sectors lanes =
+made-is size sectors lanes s =
     record {
       size = refl;
       sectors = refl;
-      internal = refl;
+      internal = size-pair size (pair-size size (s .size .0) (s .size .1) .0);
       blocks = refl;
       lanes = refl;
       data-start = refl;
-      map-start = least-multiple (4096 + (sectors + lanes) * size);
+      map-start = least-multiple (4096 + (sectors + lanes) * internalOf size);
       flog-start = least-multiple (mapStart size sectors lanes + 4 * sectors);
       copy-start = least-multiple (flogStart size sectors lanes + 64 * lanes);
       end = refl;

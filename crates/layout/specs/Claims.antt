@@ -15,6 +15,7 @@ use Rattle.layout.specs.Figures.{
   freshFigures,
   figuresAt,
 }
+use Rattle.layout.specs.Sizes.{internalOf, sizeAllowed, SizePair}
 use Rattle.layout.specs.Place.{layoutOf, at, inData, inMap, inFlog, laneWordAt, isPadding}
 use Rattle.layout.specs.Told.{distanceAllowed, alone, aloneNear, DistanceOk}
 use Rattle.layout.specs.declared.Figures.{Figures}
@@ -27,28 +28,29 @@ pub record Length (n : ℕ) : Type 0 where
 
 -- FORMAT 3.1: the figures that making is asked for
 pub record Sizes (S E N : ℕ) : Type 0 where
-  pub size : (S ≡ 512) ⊎ (S ≡ 4096)
+  pub size : (Z : ℕ) × SizePair S Z
   pub sectors : N ≤ E
   pub some-lane : 1 ≤ N
   pub few-lanes : N ≤ 16
 
--- m is the least multiple of 4,096 that is n or more
-pub record LeastMultiple (n m : ℕ) : Type 0 where
-  pub multiple : m % 4096 ≡ 0
+-- m is the least multiple of u that is n or more
+pub record LeastMultiple (u n m : ℕ) : Type 0 where
+  pub multiple : m % u ≡ 0
   pub enough : n ≤ m
-  pub least : m < n + 4096
+  pub least : m < n + u
 
--- FORMAT 6: the figures that making works out, with the arena's length: each part at the least multiple of 4,096 that fits
+-- FORMAT 6: the figures that making works out, with the arena's length: each part at the least multiple of 4,096 that fits; blocks have the
+-- internal size
 pub record FreshLayout (S E N : ℕ) (f : Figures) (length : ℕ) : Type 0 where
   pub size : f .size ≡ S
   pub sectors : f .sectors ≡ E
-  pub internal : f .internal ≡ S
+  pub internal : SizePair S (f .internal)
   pub blocks : f .blocks ≡ E + N
   pub lanes : f .lanes ≡ N
   pub data-start : f .dataoff ≡ 4096
-  pub map-start : LeastMultiple (4096 + (E + N) * S) (f .mapoff)
-  pub flog-start : LeastMultiple (f .mapoff + 4 * E) (f .flogoff)
-  pub copy-start : LeastMultiple (f .flogoff + 64 * N) (f .copyoff)
+  pub map-start : LeastMultiple 4096 (4096 + (E + N) * f .internal) (f .mapoff)
+  pub flog-start : LeastMultiple 4096 (f .mapoff + 4 * E) (f .flogoff)
+  pub copy-start : LeastMultiple 4096 (f .flogoff + 64 * N) (f .copyoff)
   pub end : length ≡ f .copyoff + 4096
 
 -- FORMAT 5.1: the layouts, by the bytes from a lane's first half to its second
@@ -58,6 +60,13 @@ Distance d = (d ≡ 16) ⊎ (d ≡ 32)
 -- byte j of a lane's 64 is in no half: the first half is 16 bytes from 0 on, the second 16 from d on
 abbrev pub InPadding : ℕ → ℕ → Type 0
 InPadding d j = (16 ≤ j) × ((j < d) ⊎ (d + 16 ≤ j))
+
+-- byte j of the arena is in the rest of a block, past its sector's bytes
+pub record InRest (f : Figures) (j : ℕ) : Type 0 where
+  pub block : ℕ
+  pub inside : block < f .blocks
+  pub from : f .dataoff + block * f .internal + f .size ≤ j
+  pub to : j < f .dataoff + block * f .internal + f .internal
 
 -- where an arena with those figures has its words, in bytes, and how much of each there is; the halves of a lane start d bytes apart
 pub record Places (d : ℕ) (f : Figures) : Type 0 where
@@ -92,6 +101,14 @@ pub record FiguresFrom (b : List ℕ) (o q : ℕ) (f : Figures) : Type 0 where
   pub flog-start : f .flogoff ≡ byteLong b (q + 16)
   pub copy-start : f .copyoff ≡ byteLong b (q + 24)
 
+-- FORMAT 3.1: the sector sizes and the bytes of their blocks
+pub record SizesClaim : Type 0 where
+  -- the table has these five pairs and no other
+  pub pairs : (S : ℕ) → sizeAllowed S ≡ true → SizePair S (internalOf S)
+  pub pairs-back : (S Z : ℕ) → SizePair S Z → (sizeAllowed S ≡ true) × (internalOf S ≡ Z)
+  -- its internal sizes are the sector sizes rounded up to a multiple of 64
+  pub rounded : (S : ℕ) → sizeAllowed S ≡ true → LeastMultiple 64 S (internalOf S)
+
 -- FORMAT 2.2, 3.1, 3.2 and 5.1: what the tests of the code let pass
 pub record AllowedClaim : Type 0 where
   pub length : (n : ℕ) → lengthAllowed n ≡ true → Length n
@@ -106,8 +123,8 @@ pub record AllowedClaim : Type 0 where
 
 -- FORMAT 6: what making works out
 pub record FreshLayoutClaim : Type 0 where
-  pub rounded : (n : ℕ) → LeastMultiple n (roundUp n)
-  pub made : (S E N : ℕ) → FreshLayout S E N (freshFigures S E N) (freshLength S E N)
+  pub rounded : (n : ℕ) → LeastMultiple 4096 n (roundUp n)
+  pub made : (S E N : ℕ) → Sizes S E N → FreshLayout S E N (freshFigures S E N) (freshLength S E N)
   -- sizes that are allowed make figures that are
   pub allowed : (S E N : ℕ) → Sizes S E N → Allowed (freshFigures S E N) (freshLength S E N)
 

@@ -1,41 +1,29 @@
 -- The figures of an arena ("the lie of an arena" in document 01), which of them are allowed, and those that making works out.
 use mathlib.Core.Path.{_≡_}
-use mathlib.Core.Logic.{_⊎_}
-use mathlib.Core.Bool.{Bool, _&&_, _||_}
+use mathlib.Core.Bool.{Bool, _&&_}
 use mathlib.Core.List.{List, [], _∷_}
 use Prim.Native.Nat.{ℕ, _+_, _*_, _/_, _%_, _≤_}
 use lib.Dec.{eqb, leb}
 use Rattle.words.specs.Word.{word, long}
 use Rattle.format.specs.Tests.{allOf}
+use Rattle.layout.specs.Sizes.{internalOf, sizeAllowed, SizePair}
 use Rattle.layout.specs.declared.Figures.{Figures}
 
 -- the most lanes that an arena has
 abbrev pub maxLanes : ℕ
 maxLanes = 16
 
--- the most bytes of a sector
-abbrev pub maxSize : ℕ
-maxSize = 4096
-
--- the most stores of a write: a sector's words, a half's four words and a map word
-abbrev pub maxStores : ℕ
-maxStores = maxSize / 4 + 5
-
--- the sizes that a sector can have
-abbrev pub sizeAllowed : ℕ → Bool
-sizeAllowed size = eqb size 512 || eqb size 4096
-
--- the internal size of a sector size: the bytes of a block
-abbrev pub internalOf : ℕ → ℕ
-internalOf size = size
-
 -- rule 1: a multiple of 4,096 from 20,480 to 16,777,216
 abbrev pub lengthAllowed : ℕ → Bool
 lengthAllowed n = eqb (n % 4096) 0 && (leb 20480 n && leb n 16777216)
 
+-- E and lanes
+abbrev pub countsAllowed : ℕ → ℕ → Bool
+countsAllowed sectors lanes = allOf (leb lanes sectors ∷ leb 1 lanes ∷ leb lanes maxLanes ∷ [])
+
 -- S, E and lanes, as making judges them
 abbrev pub sizesAllowed : ℕ → ℕ → ℕ → Bool
-sizesAllowed size sectors lanes = allOf (sizeAllowed size ∷ leb lanes sectors ∷ leb 1 lanes ∷ leb lanes maxLanes ∷ [])
+sizesAllowed size sectors lanes = sizeAllowed size && countsAllowed sectors lanes
 
 -- the four starts are multiples of 4,096
 abbrev pub startsAligned : Figures → Bool
@@ -55,9 +43,8 @@ figuresAllowed f length =
 
 -- the same as a proposition, row by row of the table
 pub record Allowed (f : Figures) (length : ℕ) : Type 0 where
-  pub size : (f .size ≡ 512) ⊎ (f .size ≡ 4096)
+  pub sizes : SizePair (f .size) (f .internal)
   pub sectors : f .lanes ≤ f .sectors
-  pub internal : f .internal ≡ f .size
   pub blocks : f .blocks ≡ f .sectors + f .lanes
   pub some-lane : 1 ≤ f .lanes
   pub few-lanes : f .lanes ≤ 16

@@ -1,7 +1,8 @@
 -- Figures that fit a slice, which functions on an arena ask of its figures, and figures that fit their fields.
 use mathlib.Core.Path.{_≡_}
 use Prim.Native.Nat.{ℕ, _+_, _*_, _%_, _≤_, _<_}
-use Rattle.layout.specs.Figures.{maxLanes, maxSize}
+use Rattle.layout.specs.Figures.{maxLanes}
+use Rattle.layout.specs.Sizes.{maxSize}
 use Rattle.layout.specs.Place.{layoutOf, LayoutOk}
 use Rattle.layout.specs.declared.Figures.{Figures}
 

@@ -1,5 +1,10 @@
 // Figures and places in document 01's bytes: each claim the contract of a function that does nothing.
-ghost use Rattle.layout.specs.Claims.{AllowedClaim, FreshLayoutClaim, PlacesClaim};
+ghost use Rattle.layout.specs.Claims.{SizesClaim, AllowedClaim, FreshLayoutClaim, PlacesClaim};
+
+// The five sector sizes, and that the bytes of their blocks are these rounded up to a multiple of 64.
+pub fn sector_sizes()
+    ensures sector_sizes { λ _. ⌜ SizesClaim ⌝ }
+{}
 
 // The length and the figures that the tests let pass are those of the table, row by row.
 pub fn allowed_figures()

@@ -10,13 +10,17 @@ ghost use mathlib.Core.Path.{_≡_};
 ghost use mathlib.Core.Bool.{true};
 ghost use Prim.Native.Nat.{ℕ, _+_, _*_, _/_, _≤_, _<_};
 ghost use lib.ListN.{length};
-ghost use Rattle.layout.specs.Figures.{maxSize, internalOf, lengthAllowed, sizesAllowed, startsAligned, partsInOrder, figuresAllowed};
+ghost use Rattle.layout.specs.Sizes.{maxSize, internalOf};
+ghost use Rattle.layout.specs.Figures.{lengthAllowed, countsAllowed, sizesAllowed, startsAligned, partsInOrder, figuresAllowed};
 ghost use Rattle.layout.specs.Figures.{roundUp, freshLength, freshFigures, figuresAt};
 ghost use Rattle.layout.specs.Place.{layoutOf, inData, inMap, inFlog, at, laneWordAt, isPadding};
 ghost use Rattle.layout.specs.Told.{alone, distanceAllowed};
 
 // The most lanes that an arena has.
 pub const MAX_LANES: u32 = 16;
+
+// The most bytes of a sector.
+pub const MAX_SIZE: usize = 4104;
 
 // The two layouts: a lane's second half starts so many bytes after the first. The report and a replay use the near one.
 pub const NEAR: u32 = 16;
@@ -89,11 +93,18 @@ pub fn figures_at(b: &[u8], i: usize, j: usize) -> Figures
     }
 }
 
-// The internal size of a sector size.
+// The table of sector sizes, each with its internal size, the bytes of a block; 0 for any other number.
 pub fn internal_of(size: u32) -> u32
     ensures { λ r. ⌜ r ≡ internalOf size ⌝ }
 {
-    size // A block is as long as a sector.
+    match size {
+        512 => 512,
+        520 => 576,
+        528 => 576,
+        4096 => 4096,
+        4104 => 4160,
+        _ => 0,
+    }
 }
 
 // Rule 1: whether a slice of that length can be an arena.
@@ -109,15 +120,10 @@ pub fn length_allowed(length: usize) -> bool
     length <= 16777216
 }
 
-// Whether a sector size, a number of sectors and a number of lanes are allowed.
-pub fn sizes_allowed(size: u32, sectors: u32, lanes: u32) -> bool
-    ensures { λ r. ⌜ r ≡ sizesAllowed size sectors lanes ⌝ }
+// Whether a number of sectors and a number of lanes are allowed.
+fn counts_allowed(sectors: u32, lanes: u32) -> bool
+    ensures { λ r. ⌜ r ≡ countsAllowed sectors lanes ⌝ }
 {
-    if size != 512 {
-        if size != 4096 {
-            return false;
-        }
-    }
     if sectors < lanes {
         return false;
     }
@@ -125,6 +131,16 @@ pub fn sizes_allowed(size: u32, sectors: u32, lanes: u32) -> bool
         return false;
     }
     lanes <= MAX_LANES
+}
+
+// Whether a sector size, a number of sectors and a number of lanes are allowed.
+pub fn sizes_allowed(size: u32, sectors: u32, lanes: u32) -> bool
+    ensures { λ r. ⌜ r ≡ sizesAllowed size sectors lanes ⌝ }
+{
+    if internal_of(size) == 0 {
+        return false;
+    }
+    counts_allowed(sectors, lanes)
 }
 
 // Whether the four starts are multiples of 4,096.
@@ -145,13 +161,10 @@ fn starts_aligned(f: Figures) -> bool
 
 // Whether each part ends at or before the next start, from the copy's start down, so that no sum can wrap.
 fn parts_in_order(f: Figures, length: usize) -> bool
-    requires { ⌜ length ≤ 16777216 ⌝ }
+    requires { ⌜ (4096 ≤ length) × (length ≤ 16777216) ⌝ }
     ensures { λ r. ⌜ r ≡ partsInOrder f length ⌝ }
 {
-    if 16777216 < f.copyoff {
-        return false;
-    }
-    if f.copyoff + 4096 != length as u64 {
+    if f.copyoff != (length - 4096) as u64 {
         return false;
     }
     if f.copyoff < f.flogoff {
@@ -177,13 +190,17 @@ fn parts_in_order(f: Figures, length: usize) -> bool
 
 // Whether every figure is allowed in an arena of that length.
 pub fn figures_allowed(f: Figures, length: usize) -> bool
-    requires { ⌜ length ≤ 16777216 ⌝ }
+    requires { ⌜ (4096 ≤ length) × (length ≤ 16777216) ⌝ }
     ensures { λ r. ⌜ r ≡ figuresAllowed f length ⌝ }
 {
-    if !sizes_allowed(f.size, f.sectors, f.lanes) {
+    let internal = internal_of(f.size);
+    if internal == 0 {
         return false;
     }
-    if f.internal != internal_of(f.size) {
+    if f.internal != internal {
+        return false;
+    }
+    if !counts_allowed(f.sectors, f.lanes) {
         return false;
     }
     if f.blocks as u64 != f.sectors as u64 + f.lanes as u64 {

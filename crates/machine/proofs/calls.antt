@@ -7,4 +7,6 @@ pub mod Tables
 pub mod Packed
 pub mod Packing
 pub mod Records
+pub mod Kept
 pub mod Written
+pub mod Rest

@@ -6,4 +6,5 @@ pub mod DemandOne
 pub mod DemandTwo
 pub mod DemandThree
 pub mod Written
+pub mod Rest
 pub mod Exhibit

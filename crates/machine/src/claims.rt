@@ -3,6 +3,7 @@ ghost use Rattle.machine.specs.claims.DemandOne.{DemandOne};
 ghost use Rattle.machine.specs.claims.DemandTwo.{DemandTwo};
 ghost use Rattle.machine.specs.claims.DemandThree.{DemandThree};
 ghost use Rattle.machine.specs.claims.Written.{WrittenWords};
+ghost use Rattle.machine.specs.claims.Rest.{RestOfBlocks};
 ghost use Rattle.machine.specs.claims.Exhibit.{Exhibited};
 
 // Every call answers by its row of the table, and a refusal changes nothing.
@@ -23,6 +24,11 @@ pub fn demand_three()
 // Every call leaves each map word as it was, or with flags 11 and a block, and making leaves zeroes.
 pub fn written_words()
     ensures written_words { λ _. ⌜ WrittenWords ⌝ }
+{}
+
+// No call changes a byte of a block past the sector's.
+pub fn rest_of_blocks()
+    ensures rest_of_blocks { λ _. ⌜ RestOfBlocks ⌝ }
 {}
 
 // There is a run on a made arena that meets the premises of demands 2 and 3.

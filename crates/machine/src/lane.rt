@@ -4,7 +4,7 @@ use format::numbers::SectorNo;
 use format::sequence::Sequence;
 ghost use mathlib.Core.Path.{_≡_};
 ghost use Prim.Native.Nat.{_+_, _≤_, _<_};
-ghost use Rattle.layout.specs.Figures.{maxStores};
+ghost use Rattle.layout.specs.Sizes.{maxStores};
 ghost use Rattle.machine.specs.state.Lane.{noLane, idleLane, isBusy, startedLane, storedLane, finishedLane};
 
 pub struct Lane {

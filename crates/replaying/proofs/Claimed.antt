@@ -1,7 +1,7 @@
 -- The claim about a replay: the first opening stands for the row that the arena begins with and a ledger without lines, the records keep
 -- that, and what the row holds is read.
 use mathlib.Core.Path.{_≡_, refl, sym, ap, _∙_, subst}
-use mathlib.Core.Logic.{_≢_, ⊎-elim, inl}
+use mathlib.Core.Logic.{_≢_, inl}
 use mathlib.Core.Bool.{false}
 use mathlib.Core.List.{List, [], _∷_, _++_, map}
 use Prim.Native.Nat.{ℕ, suc, _+_, _≤_, _<_}
@@ -14,6 +14,7 @@ use Rattle.words.specs.Word.{word}
 use Rattle.words.specs.Bytes.{Small}
 use Rattle.format.proofs.Below.{below-append, below-replicate, below-drop}
 use Rattle.format.proofs.Tests.{by-bool}
+use Rattle.layout.proofs.Allowed.{pair-fitting}
 use Rattle.layout.specs.Place.{layoutOf}
 use Rattle.layout.specs.Told.{aloneNear}
 use Rattle.layout.specs.declared.Figures.{Figures}
@@ -26,7 +27,10 @@ use Rattle.machine.specs.models.Row.{Sector, holds, Row, storesOf, wordByWord, 
 use Rattle.machine.proofs.opening.Described.{described-figures}
 use Rattle.machine.proofs.opening.Opening.{opening-claim}
 use Rattle.machine.proofs.opening.Opens.{open-zero, opened-figures, opened-idle}
+use Rattle.machine.specs.claims.Rest.{RestKept}
 use Rattle.machine.proofs.calls.Packing.{packing-claim}
+use Rattle.machine.proofs.calls.Kept.{opened-kept}
+use Rattle.machine.proofs.calls.Rest.{rest-keeps}
 use Rattle.machine.proofs.invariant.Held.{held-open, held-whole}
 use Rattle.machine.proofs.invariant.Histories.{alike-open}
 use Rattle.machine.proofs.row.Answers.{read-is}
@@ -41,7 +45,7 @@ use Rattle.replaying.specs.Replay.{Point, Replay, openedPoint, ran, runA
 use Rattle.replaying.specs.Ledger.{Written, asOpened, by, Ledger, noLines, cutNoted, allNoted}
 use Rattle.replaying.specs.Claims.{CutsOpen, SectorReads, ReadsBy, numbers, last, events, ReplayFor, RefusedFor, ReplayClaim}
 use Rattle.replaying.proofs.Noted.{SectorNoted, Noted, reopened-noted}
-use Rattle.replaying.proofs.Follows.{stateOf, Cleared, Sized, Followed, follow}
+use Rattle.replaying.proofs.Follows.{stateOf, Cleared, Sized, events-small, Followed, follow}
 
 -- ---- the records of a log
 
@@ -107,7 +111,7 @@ module _ (a work : List ℕ) (small : Small a) (small-work : Small work) (e : (o
     whole = unfold layoutOf in (held-whole aloneNear (first .arena) (first .handle) (rep₀ .held));
     size =
         let d = open-zero aloneNear a (length work) (unfold openOf in e) .0 .info in
-        rw figures-are (⊎-elim (λ h. omega arith) (λ h. omega arith) (described-figures aloneNear a d .size));
+        rw figures-are (pair-fitting _ _ (described-figures aloneNear a d .sizes) .most);
   }
 
   cleared : Cleared f ((openOf aloneNear a work) .work)
@@ -210,6 +214,8 @@ module _ (a work : List ℕ) (small : Small a) (small-work : Small work) (e : (o
       arena = rw replay-is (ap (λ (y : State). y .arena) last-is);
       buffer = rw replay-is (followed .stands .work);
       cuts = subst (CutsOpen records) (sym numbers-are) (followed .cuts);
+      rest = rw (replay-is, ap (λ (y : State). y .arena) last-is) (opened-kept RestKept rest-keeps aloneNear a work (events a work log) small
+          (events-small (firstRow first) _ f cleared records 0 (fit-records log small-log)) e);
       sectors = subst (λ (ns : List ℕ). ReadsBy first end ((lines ns) .sector)) (sym numbers-are)
           (reads-by f sized first end (firstRow first) (followed .row) (lines given) refl last-figures rep₀ rep-last (followed .stands .noted));
       opens = opens;

@@ -1,7 +1,8 @@
 -- A replay is a history of calls and openings, and its row goes with its ledger: record by record, the call is the event's, an opening is
 -- never refused and leaves the work buffer as it was, and what the record answered is noted.
 use mathlib.Core.Path.{_≡_, refl, sym, ap, ap₂, _∙_, subst}
-use mathlib.Core.List.{List, [], _∷_, _++_, map}
+use mathlib.Core.Logic.{⊎-elim}
+use mathlib.Core.List.{List, [], _∷_, _++_, map, List·Memᴰ·cases-cons, List·Memᴰ·not-nil}
 use Prim.Native.Nat.{ℕ, suc, _+_, _*_, _/_, _≤_}
 use native.Mathlib.Omega.{arith}
 use lib.Dec.{eqb}
@@ -11,7 +12,7 @@ use Rattle.words.specs.Bytes.{Small}
 use Rattle.format.proofs.Tests.{by-bool}
 use Rattle.format.specs.declared.numbers.LaneNo.{LaneNo}
 use Rattle.format.specs.declared.numbers.SectorNo.{SectorNo}
-use Rattle.layout.specs.Figures.{maxSize}
+use Rattle.layout.specs.Sizes.{maxSize}
 use Rattle.layout.specs.Told.{aloneNear}
 use Rattle.layout.specs.declared.Figures.{Figures}
 use Rattle.machine.specs.Rules.{answer}
@@ -34,6 +35,7 @@ use Rattle.machine.specs.calls.History.{
   runEvents,
   replyEvents,
   SmallEvent,
+  SmallEvents,
 }
 use Rattle.machine.specs.models.Row.{Row, storesOf, wordByWord, rowNumber, rowReply, rowAfter, rowOpenNumber, rowReplyEvent, rowAfterEvent, rowReplies}
 use Rattle.machine.proofs.calls.Packing.{packing-claim}
@@ -158,6 +160,11 @@ module _ (row₀ : Row) (w : List ℕ) where
   event-small f c i (Step l) p = lent-small (f .size) i
   event-small f c i Cut p = c .small
   event-small f c i Refused p = absurd p
+
+  pub events-small : (f : Figures) → Cleared f w → (rs : List Record) (i : ℕ) → AllFit rs → SmallEvents (eventsOf (f .size) w i rs)
+  unfolding eventsOf AllFit
+  events-small f c [] i p e m = absurd (List·Memᴰ·not-nil m)
+  events-small f c (r ∷ rs) i p e m = ⊎-elim (λ q. subst SmallEvent (sym q) (event-small f c i r (p .0))) (events-small f c rs (suc i) (p .1) e) (List·Memᴰ·cases-cons m)
 
   cuts-more : (r : Record) (n : ℕ) (rs : List Record) (ns : List ℕ) → CutsOpen (r ∷ []) (n ∷ []) → CutsOpen rs ns → CutsOpen (r ∷ rs) (n ∷ ns)
   unfolding CutsOpen

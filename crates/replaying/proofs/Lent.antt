@@ -10,7 +10,7 @@ use Rattle.words.specs.Bytes.{Small}
 use Rattle.words.proofs.Laws.{word-take}
 use Rattle.words.proofs.Runs.{putWords-bytes, word-putWords-in}
 use Rattle.format.proofs.Below.{below-replicate, below-take}
-use Rattle.layout.specs.Figures.{maxSize}
+use Rattle.layout.specs.Sizes.{maxSize}
 use Rattle.replaying.specs.Replay.{rising, wordsFor, stepBytes}
 use Rattle.replaying.specs.Claims.{StepsClaim}
 use Rattle.replaying.proofs.Words.{words-length}

@@ -7,7 +7,7 @@ use lib.ListN.{length, take, replicate, length-replicate}
 use lib.Seq.{take-all}
 use Rattle.words.specs.Word.{putWord, putWords}
 use Rattle.words.proofs.Runs.{length-putWords}
-use Rattle.layout.specs.Figures.{maxSize}
+use Rattle.layout.specs.Sizes.{maxSize}
 use Rattle.replaying.specs.Replay.{rising, wordsFor}
 
 -- k words are put, and those from k on are left

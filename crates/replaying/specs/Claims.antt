@@ -11,6 +11,7 @@ use Rattle.layout.specs.Told.{aloneNear}
 use Rattle.machine.specs.calls.Opening.{figuresIn, openOf}
 use Rattle.machine.specs.calls.Reading.{Read, readOf}
 use Rattle.machine.specs.calls.History.{start, step, read, State, Reply, Event, called, opened, replyEvents, runEvents, openedFrom}
+use Rattle.machine.specs.claims.Rest.{RestKept}
 use Rattle.runlog.specs.declared.record.Record.{Record}
 use Rattle.runlog.specs.declared.record.Record.the-variants.{Start, Step, Cut, Refused}
 use Rattle.runlog.specs.Log.{logOf}
@@ -26,7 +27,7 @@ pub record StepLends (size i : ℕ) : Type 0 where
 
 -- for every sector size and every record of a log
 abbrev pub StepsClaim : Type 0
-StepsClaim = (size i : ℕ) → size ≤ 4096 → i ≤ 8192 → StepLends size i
+StepsClaim = (size i : ℕ) → size ≤ 4104 → i ≤ 8192 → StepLends size i
 
 -- ---- a replay as a history
 
@@ -110,6 +111,8 @@ module _ (a work log : List ℕ) where
     pub arena : (replayOf a work log) .arena ≡ last .arena
     pub buffer : (replayOf a work log) .work ≡ cleared
     pub cuts : CutsOpen ranRecords numbers
+    -- no byte of a block past the sector's is changed
+    pub rest : RestKept (figuresIn a) a ((replayOf a work log) .arena)
     -- its sectors, through the latest handle
     pub sectors : ReadsBy first last (ledger .sector)
     -- and opened again with any work buffer that is long enough: the writes that lack one store are finished

@@ -5,7 +5,7 @@ use Prim.Native.Nat.{ℕ, zero, suc, _/_}
 use lib.Dec.{eqb}
 use lib.ListN.{take, replicate}
 use Rattle.words.specs.Word.{putWords}
-use Rattle.layout.specs.Figures.{maxSize}
+use Rattle.layout.specs.Sizes.{maxSize}
 use Rattle.layout.specs.Told.{aloneNear}
 use Rattle.machine.specs.state.Handle.{Handle}
 use Rattle.machine.specs.state.Packed.{unpacked, packedUp}

@@ -3,6 +3,7 @@ use arena::open::open;
 use arena::start;
 use arena::step;
 use format::numbers::LaneNo;
+use layout::MAX_SIZE;
 use layout::NEAR;
 use machine::answer::Answer;
 use machine::handle::Handle;
@@ -12,7 +13,7 @@ use writing::Stepped;
 ghost use mathlib.Core.Path.{_≡_};
 ghost use Prim.Native.Nat.{_≤_};
 ghost use lib.ListN.{length};
-ghost use Rattle.layout.specs.Figures.{maxSize};
+ghost use Rattle.layout.specs.Sizes.{maxSize};
 ghost use Rattle.machine.specs.state.Answer.{numberOf};
 ghost use Rattle.machine.specs.state.Packed.{unpacked};
 ghost use Rattle.machine.specs.calls.Writing.{stepOf};
@@ -22,7 +23,7 @@ ghost use Rattle.replaying.specs.Replay.{wordsFor, stepBytes, ran, answe
 ghost use Rattle.replaying.specs.Gave.{pointAt};
 
 // The words of the largest sector.
-const MAX_WORDS: u32 = 1024;
+const MAX_WORDS: u32 = 1026;
 
 // Fills a buffer of the largest sector's length with rising words, from the record's index on.
 fn fill_words(buffer: &mut [u8], index: u32)
@@ -42,10 +43,10 @@ fn run_step(arena: &mut [u8], h: Handle, lane: LaneNo, index: u32) -> Stepped
     ensures { λ r. ⌜ stepGave r (now (arena .exit))
         ≡ packedOutcome h (stepOf (now (arena .entry)) (unpacked h) (lane .0) (stepBytes (h .figures .size) index)) ⌝ }
 {
-    let mut buffer = [0u8; 4096];
+    let mut buffer = [0u8; MAX_SIZE];
     fill_words(&mut buffer, index);
     let size = h.figures.size as usize;
-    if size < 4096 {
+    if size < MAX_SIZE {
         return step(arena, h, lane, &buffer[..size]);
     }
     step(arena, h, lane, &buffer[..])

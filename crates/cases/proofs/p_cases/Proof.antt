@@ -1,4 +1,4 @@
--- `cases::p_cases` meets its contract: the values of cases 1 to 5 and the bytes of case 9 are computed but for the refused word of case 3, which is
+-- `cases::p_cases` meets its contract: the values of cases 1 to 5 and the bytes of case 9, with what stands beside them, are computed but for the refused word of case 3, which is
 -- exhibited, and cases 6 to 8 are proved in `Pending`.
 use mathlib.Core.Path.{refl}
 use mathlib.Core.Logic.{inl, inr}
@@ -10,13 +10,16 @@ use Rattle.fletcher.specs.Fletcher.{added, addedAll, fletcher64}
 use Rattle.format.specs.Sequence.{successor, newer}
 use Rattle.format.specs.MapWord.{blockOf}
 use Rattle.layout.specs.Figures.{freshFigures, freshLength}
+use Rattle.layout.specs.Sizes.{internalOf}
 use Rattle.layout.specs.Claims.{Distance}
 use Rattle.layout.specs.Place.{layoutOf}
+use Rattle.machine.specs.Rules.{answer}
+use Rattle.machine.specs.calls.Making.{makeNumber}
 use Rattle.machine.specs.calls.Writing.{storeAt}
 use Rattle.machine.proofs.exhibit.Run.{exhibited}
 use Rattle.cases.specs.Worked.{Worked, AllDue}
 use Rattle.cases.specs.Pending.{case6, case7, case8}
-use Rattle.cases.specs.Table.{case1, case2, case3, case3-refused, case3-bits, case4, case4-turns, case5, case9-bytes, table}
+use Rattle.cases.specs.Table.{case1, case2, case3, case3-refused, case3-bits, case4, case4-turns, case5, case5-sizes, case9-sizes, case9-bytes, table}
 use Rattle.cases.proofs.Pending.{cases-6-and-7, case-8}
 use Rattle.cases.proofs.p_cases.Statement.{statement}
 use Rattle.cases.proofs.p_cases.Tie as tie
@@ -27,7 +30,7 @@ append (x ∷ xs) ys p q = (p .0, append xs ys (p .1) q)
 
 -- cases 1 to 5 are computed, all but the refused word
 computed : AllDue (case1 ++ (case2 ++ (case3 ++ (case3-bits ++ (case4 ++ (case4-turns ++ case5))))))
-unfolding added addedAll fletcher64 successor newer blockOf freshFigures freshLength
+unfolding added addedAll fletcher64 successor newer blockOf freshFigures freshLength internalOf
 computed = (refl, (refl, (refl, (refl, (refl, (refl, (refl, (refl, (refl, (refl, (refl, (refl, (refl, (refl, (refl, (refl, (refl, (refl, (refl, (refl, (refl, (refl, (refl, (refl, (refl, (refl, (refl, (refl, (refl, (refl, (refl, (refl, (refl, (refl, (refl, (refl, (refl, (refl, (refl, (refl, (refl, (refl, (refl, (refl, tt))))))))))))))))))))))))))))))))))))))))))))
 
 -- case 3's refused word is that of the exhibited arena
@@ -37,9 +40,19 @@ refused d w =
     let k = exhibited d w .sloppy in
     (k .word, (k .read (replicate 512 0) size, (k .start, (k .write (replicate 512 0) size, tt))))
 
+-- the sizes beside case 5
+sized : AllDue case5-sizes
+unfolding freshFigures freshLength internalOf makeNumber answer
+sized = (refl, (refl, (refl, (refl, (refl, (refl, (refl, (refl, (refl, (refl, tt))))))))))
+
+-- and their bytes beside case 9
+stored-sized : AllDue case9-sizes
+unfolding layoutOf freshFigures internalOf storeAt
+stored-sized = (refl, (refl, (refl, (refl, (refl, (refl, (refl, (refl, (refl, (refl, (refl, (refl, (refl, (refl, (refl, tt)))))))))))))))
+
 -- case 9's bytes
 stored : AllDue (case9-bytes 16 40976) × AllDue (case9-bytes 32 40992)
-unfolding layoutOf freshFigures storeAt
+unfolding layoutOf freshFigures internalOf storeAt
 stored = ((refl, (refl, (refl, (refl, (refl, (refl, (refl, tt))))))), (refl, (refl, (refl, (refl, (refl, (refl, (refl, tt))))))))
 
 abbrev plain : List Worked
@@ -60,11 +73,13 @@ pendings-due =
 all-due : AllDue table
 unfolding table
 all-due =
-    append plain (case9-bytes 16 40976 ++ (case9-bytes 32 40992 ++ (case3-refused 16 ++ (case3-refused 32 ++ pendings)))) computed
+    append plain (case5-sizes ++ (case9-sizes ++ (case9-bytes 16 40976 ++ (case9-bytes 32 40992 ++ (case3-refused 16 ++ (case3-refused 32 ++ pendings)))))) computed
+    (append case5-sizes (case9-sizes ++ (case9-bytes 16 40976 ++ (case9-bytes 32 40992 ++ (case3-refused 16 ++ (case3-refused 32 ++ pendings))))) sized
+    (append case9-sizes (case9-bytes 16 40976 ++ (case9-bytes 32 40992 ++ (case3-refused 16 ++ (case3-refused 32 ++ pendings)))) stored-sized
     (append (case9-bytes 16 40976) (case9-bytes 32 40992 ++ (case3-refused 16 ++ (case3-refused 32 ++ pendings))) (stored .0)
     (append (case9-bytes 32 40992) (case3-refused 16 ++ (case3-refused 32 ++ pendings)) (stored .1)
     (append (case3-refused 16) (case3-refused 32 ++ pendings) (refused 16 (inl refl))
-    (append (case3-refused 32) pendings (refused 32 (inr refl)) pendings-due))))
+    (append (case3-refused 32) pendings (refused 32 (inr refl)) pendings-due))))))
 
 returns : tie.Need-returns
 returns c = all-due

@@ -1,7 +1,8 @@
 -- `layout::fresh_figures` meets its contract. An allowed length bounds every part, so that no sum wraps.
 use mathlib.Core.Path.{refl}
 use native.Mathlib.Omega.{arith}
-use Rattle.layout.specs.Figures.{internalOf, freshFigures}
+use Rattle.layout.specs.Figures.{freshFigures}
+use Rattle.layout.specs.Sizes.{internalOf}
 use Rattle.layout.proofs.Bounds.{parts-small}
 use borrow.Author.Needs.{needs}
 use Rattle.layout.proofs.fresh_figures.Statement.{statement}

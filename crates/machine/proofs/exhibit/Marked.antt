@@ -10,6 +10,7 @@ use Rattle.words.specs.Word.{putWord}
 use Rattle.words.specs.Bytes.{Small}
 use Rattle.format.specs.MapWord.{blockOf}
 use Rattle.layout.specs.Figures.{freshFigures}
+use Rattle.layout.specs.Sizes.{internalOf}
 use Rattle.layout.specs.Place.{Layout, layoutOf}
 use Rattle.layout.specs.Told.{alone}
 use Rattle.layout.specs.declared.Figures.{Figures}
@@ -53,7 +54,7 @@ module _ (d : ℕ) where
 
   -- by word numbers
   pub marked-is : (a : List ℕ) → putWord (putWord a 9221 0x80000005) 9222 0x40000006 ≡ marked a
-  unfolding layoutOf freshFigures
+  unfolding layoutOf freshFigures internalOf
   marked-is a = refl
 
   module _ (a work : List ℕ) (small : Small a) (opens : (openOf (alone d) a work) .number ≡ 0) (same : (openOf (alone d) a work) .arena ≡ a)

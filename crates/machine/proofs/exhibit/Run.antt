@@ -8,6 +8,7 @@ use lib.ListN.{length, replicate, length-replicate}
 use Rattle.words.specs.Bytes.{Small}
 use Rattle.format.proofs.Below.{below-replicate}
 use Rattle.layout.specs.Figures.{freshLength, freshFigures}
+use Rattle.layout.specs.Sizes.{internalOf}
 use Rattle.layout.specs.Place.{layoutOf}
 use Rattle.machine.specs.calls.Making.{makeNumber, makeOf}
 use Rattle.machine.specs.Rules.{answer}
@@ -263,7 +264,7 @@ module _ (d : ℕ) (a work : List ℕ) (bytes : ℕ → List ℕ) (buffer : List
 -- ---- the made arena
 
 order-number : makeNumber exhibitWanted 49152 ≡ 0
-unfolding makeNumber freshLength answer
+unfolding makeNumber freshLength internalOf answer
 order-number = refl
 
 zeroes : (n : ℕ) → Small (replicate n 0)

@@ -18,6 +18,7 @@ use Rattle.format.proofs.Tests.{true-false, by-bool, true-or, every-intro, some
 use Rattle.infoblock.specs.Info.{infoBlockOf, figuresOf}
 use Rattle.infoblock.proofs.InfoBlock.{info-local}
 use Rattle.layout.specs.Figures.{freshFigures}
+use Rattle.layout.specs.Sizes.{internalOf}
 use Rattle.layout.specs.Place.{Layout, layoutOf, inFlog, at, isPadding}
 use Rattle.layout.specs.Claims.{Distance}
 use Rattle.layout.specs.Told.{alone}
@@ -74,7 +75,7 @@ module _ (d : ℕ) (w : Distance d) where
         (opened-idle (alone d) a work opens l (rw (opened-figures (alone d) a work opens, figures) (lanes-out d f l u)))
 
     size-is : length a ≡ 49152
-    unfolding freshFigures
+    unfolding freshFigures internalOf
     size-is = sym (allowed-of f (length a) (good-figures (alone d) a d f (h .lanes) good) .copy-start)
 
     -- ---- with word p stored, between the info blocks and in no half
@@ -113,7 +114,7 @@ module _ (d : ℕ) (w : Distance d) where
     worded = putWord a 9223 5
 
     word-7 : (s : ℕ) → s < 60 → mapWord g worded s ≡ cond (eqb s 7) 5 0
-    unfolding layoutOf freshFigures
+    unfolding layoutOf freshFigures internalOf
     word-7 s u = go (ℕ-discrete s 7)
       where
         go : Dec (s ≡ 7) → word worded (9216 + s) ≡ cond (eqb s 7) 5 0
@@ -121,7 +122,7 @@ module _ (d : ℕ) (w : Distance d) where
         go (no n) = rw (ne-eqb s 7 n) (word-putWord-other a 9223 (9216 + s) 5 (λ e. n (omega arith)) ∙ word-0 s u)
 
     word-refused : (openOf (alone d) worded work) .number ≡ 18
-    unfolding layoutOf freshFigures
+    unfolding layoutOf freshFigures internalOf
     word-refused = refuses 9223 5 (omega arith) (omega arith) (λ l x k u c e i. omega arith)
         (some-intro 60 (λ s. badWord 64 (mapWord g worded s)) (λ s u. rw (word-7 s u) (by-bool (eqb s 7) _ (λ t. rw t) (λ t. rw t))))
         (true-or _ _ (inl (some-found 60 (λ s. sloppyWord (mapWord g worded s)) 7 (omega arith) (rw (word-7 7 (omega arith))))))
@@ -137,11 +138,11 @@ module _ (d : ℕ) (w : Distance d) where
     padded = putWord a 10303 0x01000000
 
     still-0 : (s : ℕ) → s < 60 → mapWord g padded s ≡ 0
-    unfolding layoutOf freshFigures
+    unfolding layoutOf freshFigures internalOf
     still-0 s u = word-putWord-other a 10303 (9216 + s) 0x01000000 (λ e. omega arith) ∙ word-0 s u
 
     padding-refused : (openOf (alone d) padded work) .number ≡ 18
-    unfolding layoutOf freshFigures paddingSet
+    unfolding layoutOf freshFigures internalOf paddingSet
     padding-refused = refuses 10303 0x01000000 (omega arith) (omega arith)
         (λ l x k u c e. padding-apart g (good .inv .ok) 3 15 (omega arith) (omega arith) last-padding (inFlog l x k) (u, c, e))
         (some-intro 60 (λ s. badWord 64 (mapWord g padded s))

@@ -1,6 +1,6 @@
 -- The claim about making: its row by its tests, and of an accepted order the made arena, whose info block, map and flog are fresh.
 use mathlib.Core.Path.{_≡_, refl, sym, ap, _∙_, subst}
-use mathlib.Core.Logic.{_≢_, inl}
+use mathlib.Core.Logic.{_≢_, inl, inr}
 use mathlib.Core.Bool.{true}
 use mathlib.Core.List.{List}
 use Prim.Native.Nat.{ℕ, _+_, _-_, _*_, _<_}
@@ -9,14 +9,15 @@ use lib.Dec.{eqb}
 use lib.ListN.{length, drop, replicate, length-replicate}
 use borrow.Author.Tests.{eqb-true, eq-eqb, ne-eqb, not-false}
 use Rattle.words.specs.Bytes.{Small}
-use Rattle.layout.specs.Figures.{lengthAllowed, sizesAllowed, Allowed, freshLength, freshFigures}
+use Rattle.layout.specs.Figures.{lengthAllowed, Allowed, freshLength, freshFigures}
+use Rattle.layout.specs.Sizes.{internalOf, SizePair}
 use Rattle.layout.specs.Place.{Layout, layoutOf}
 use Rattle.layout.specs.declared.Figures.{Figures}
 use Rattle.infoblock.specs.Info.{infoWords}
 use Rattle.format.proofs.Tests.{and-intro, and-elim}
 use Rattle.layout.specs.Claims.{FreshLayout}
-use Rattle.layout.proofs.InBytes.{made-claim}
-use Rattle.layout.proofs.Allowed.{sizes-of, of-sizes, made-allowed, quarter, internal-words, starts-exact}
+use Rattle.layout.proofs.InBytes.{allowed-claim, made-claim}
+use Rattle.layout.proofs.Allowed.{quarter, internal-words, starts-exact}
 use Rattle.machine.specs.Rules.{answer}
 use Rattle.machine.specs.state.Lane.{idleLane}
 use Rattle.machine.specs.state.Flog.{mapWord}
@@ -35,7 +36,7 @@ use Rattle.machine.specs.calls.Making.{
   dataEnd,
 }
 use Rattle.machine.specs.calls.Opening.{layoutIn, openOf, mended}
-use Rattle.layout.specs.Claims.{Sizes, Distance}
+use Rattle.layout.specs.Claims.{Distance}
 use Rattle.machine.specs.words.Valid.{HoldsMake, AnswersMake}
 use Rattle.machine.specs.claims.Making.{WantedOk, FreshLane, FreshBytes, FreshOpens, FreshArena, smallest, MakingClaim}
 use Rattle.machine.proofs.rules.Rules.{passed-all, first-in, unguarded, asked}
@@ -63,18 +64,10 @@ use Rattle.machine.proofs.making.FreshValid.{
 }
 use Rattle.layout.specs.Told.{alone}
 
-sizes-ok : (o : Wanted) → sizesAllowed (o .size) (o .sectors) (o .lanes) ≡ true → Sizes (o .size) (o .sectors) (o .lanes)
-sizes-ok o e =
-    let h = sizes-of (o .size) (o .sectors) (o .lanes) e in
-    record { size = h .0; sectors = h .1; some-lane = h .2; few-lanes = h .3 }
-
-ok-sizes : (o : Wanted) → Sizes (o .size) (o .sectors) (o .lanes) → sizesAllowed (o .size) (o .sectors) (o .lanes) ≡ true
-ok-sizes o s = of-sizes (o .size) (o .sectors) (o .lanes) (s .size) (s .sectors) (s .some-lane) (s .few-lanes)
-
 -- ---- each rule's test tells whether it holds in words
 
 tells : (o : Wanted) (n : ℕ) (r : MakeRule) → (testsMake o n r ≡ true → HoldsMake o n r) × (HoldsMake o n r → testsMake o n r ≡ true)
-tells o n wrongSizes = asked (sizes-ok o) (ok-sizes o)
+tells o n wrongSizes = asked (allowed-claim .sizes _ _ _) (allowed-claim .sizes-back _ _ _)
 tells o n wrongTotal =
     let m = freshLength (o .size) (o .sectors) (o .lanes) in
     asked
@@ -104,13 +97,18 @@ refused : (o : Wanted) (a : List ℕ) → (makeOf o a) .number ≢ 0 → (makeOf
 unfolding makeOf
 refused o a n = rw (ne-eqb (makeNumber o (length a)) 0 n)
 
-one-number : makeNumber smallest 20480 ≡ 0
-unfolding makeNumber freshLength answer
-one-number = refl
+-- one sector and one lane of each size
+one-number : (S Z : ℕ) → SizePair S Z → makeNumber (smallest S) (freshLength S 1 1) ≡ 0
+unfolding makeNumber freshLength internalOf answer
+one-number S Z (inl p) = rw (p .0)
+one-number S Z (inr (inl p)) = rw (p .0)
+one-number S Z (inr (inr (inl p))) = rw (p .0)
+one-number S Z (inr (inr (inr (inl p)))) = rw (p .0)
+one-number S Z (inr (inr (inr (inr p)))) = rw (p .0)
 
-one : (makeOf smallest (replicate 20480 0)) .number ≡ 0
+one : (S Z : ℕ) → SizePair S Z → (makeOf (smallest S) (replicate (freshLength S 1 1) 0)) .number ≡ 0
 unfolding makeOf
-one = ap (makeNumber smallest) (length-replicate {A = ℕ} 20480 0) ∙ one-number
+one S Z p = ap (makeNumber (smallest S)) (length-replicate {A = ℕ} (freshLength S 1 1) 0) ∙ one-number S Z p
 
 accepts : (o : Wanted) (a : List ℕ) → (makeOf o a) .number ≡ 0 → WantedOk o (length a)
 unfolding makeOf makeNumber
@@ -121,7 +119,7 @@ accepts o a e =
     let l = and-elim (lengthAllowed n) (eqb n m) (not-false _ (p .1 .0)) in
     let i = and-elim (eqb (length (o .first)) 16) (eqb (length (o .second)) 16) (not-false _ (p .1 .1 .0)) in
     record {
-      sizes = sizes-ok o (not-false _ (p .0));
+      sizes = allowed-claim .sizes _ _ _ (not-false _ (p .0));
       size = length-ok n (l .0);
       exact = eqb-true n m (l .1);
       first = eqb-true _ 16 (i .0);
@@ -132,7 +130,7 @@ only : (o : Wanted) (a : List ℕ) → WantedOk o (length a) → (makeOf o a) .n
 unfolding makeOf makeNumber answer
 only o a k =
     rw (
-      ok-sizes o (k .sizes),
+      allowed-claim .sizes-back _ _ _ (k .sizes),
       ok-length (length a) (k .size),
       eq-eqb (length a) (freshLength (o .size) (o .sectors) (o .lanes)) (k .exact),
       eq-eqb (length (o .first)) 16 (k .first),
@@ -155,7 +153,7 @@ module _ (o : Wanted) (a : List ℕ) (small : Small a) (first : Small (o .first)
 
   ok : Allowed figures (length a)
   unfolding figures
-  ok = rw (order .exact) (made-allowed (o .size) (o .sectors) (o .lanes) (ok-sizes o (order .sizes)))
+  ok = rw (order .exact) (made-claim .allowed (o .size) (o .sectors) (o .lanes) (order .sizes))
 
   given : Given (o .first) (o .second) figures a
   given = record {
@@ -170,7 +168,7 @@ module _ (o : Wanted) (a : List ℕ) (small : Small a) (first : Small (o .first)
   made-small = rw arena (small-in (o .first) (o .second) figures a given)
 
   -- where the data blocks end, in bytes
-  data-end : 4 * dataEnd (layoutOf 16 figures) ≡ 4096 + (o .sectors + o .lanes) * o .size
+  data-end : 4 * dataEnd (layoutOf 16 figures) ≡ 4096 + (o .sectors + o .lanes) * figures .internal
   unfolding figures layoutOf freshFigures
   data-end = omega (arith, quarter (o .sectors + o .lanes) (figures .internal) (internal-words figures (length a) ok .1))
 
@@ -197,7 +195,7 @@ module _ (o : Wanted) (a : List ℕ) (small : Small a) (first : Small (o .first)
   unfolding figures
   starts =
       subst (FreshLayout (o .size) (o .sectors) (o .lanes) figures)
-      (sym (same-length (o .first) (o .second) figures a given ∙ order .exact)) (made-claim .made (o .size) (o .sectors) (o .lanes))
+      (sym (same-length (o .first) (o .second) figures a given ∙ order .exact)) (made-claim .made (o .size) (o .sectors) (o .lanes) (order .sizes))
 
   made-bytes : FreshBytes o figures a m
   made-bytes =

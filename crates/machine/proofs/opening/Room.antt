@@ -1,6 +1,5 @@
 -- A work buffer with a byte for every 512 bytes of the arena is long enough: each block has 512 bytes or more, so rule 5 does not apply.
 use mathlib.Core.Path.{_≡_, refl}
-use mathlib.Core.Logic.{⊎-elim}
 use mathlib.Core.Bool.{Bool, true, false, cond}
 use mathlib.Core.List.{List}
 use Prim.Native.Nat.{ℕ, _*_, _≤_}
@@ -12,6 +11,7 @@ use borrow.Author.Tests.{le-ltb, not-false}
 use Rattle.format.proofs.Tests.{true-false}
 use Rattle.layout.specs.Figures.{Allowed}
 use Rattle.layout.specs.Place.{layoutOf}
+use Rattle.layout.proofs.Allowed.{pair-fitting}
 use Rattle.layout.specs.declared.Figures.{Figures}
 use Rattle.layout.specs.declared.Told.{Told}
 use Rattle.machine.specs.Rules.{answer}
@@ -20,7 +20,8 @@ use Rattle.machine.proofs.opening.Described.{Described, described-figur
 
 few-blocks : (f : Figures) (n room : ℕ) → Allowed f n → n ≤ 512 * room → f .blocks ≤ room
 few-blocks f n room ok h =
-    let i : 512 ≤ f .internal = ⊎-elim (λ e. omega (arith, ok .internal)) (λ e. omega (arith, ok .internal)) (ok .size) in
+    let z = pair-fitting _ _ (ok .sizes) in
+    let i : 512 ≤ f .internal = omega arith in
     let m : f .blocks * 512 ≤ f .blocks * f .internal = mul-le-mul-left (f .blocks) i in
     omega (arith, ok .data-end, ok .map-end, ok .flog-end, ok .copy-start)
 

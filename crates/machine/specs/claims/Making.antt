@@ -6,6 +6,7 @@ use Prim.Native.Nat.{ℕ, _+_, _*_, _≤_, _<_}
 use lib.ListN.{length, getD, take, drop, replicate}
 use Rattle.words.specs.Bytes.{Small, byteWord}
 use Rattle.layout.specs.Figures.{freshLength, freshFigures}
+use Rattle.layout.specs.Sizes.{SizePair}
 use Rattle.layout.specs.Claims.{FreshLayout}
 use Rattle.layout.specs.Told.{alone}
 use Rattle.infoblock.specs.Claims.{FreshBlock}
@@ -43,10 +44,10 @@ pub record FreshBytes (o : Wanted) (f : Figures) (a m : List ℕ) : Type 0 where
   -- the info block at its start, field by field; the copy is the same bytes
   pub info : FreshBlock (o .first) (o .second) f (take 4096 m)
   pub copy : take 4096 m ≡ drop (f .copyoff) m
-  -- data blocks are not touched
-  pub kept : (j : ℕ) → 4096 ≤ j → j < 4096 + (o .sectors + o .lanes) * o .size → getD m j 0 ≡ getD a j 0
+  -- data blocks are not touched, all of f's internal size
+  pub kept : (j : ℕ) → 4096 ≤ j → j < 4096 + (o .sectors + o .lanes) * f .internal → getD m j 0 ≡ getD a j 0
   -- from their end on: padding, the map and padding, all zero
-  pub before-flog : (j : ℕ) → 4096 + (o .sectors + o .lanes) * o .size ≤ j → j < f .flogoff → getD m j 0 ≡ 0
+  pub before-flog : (j : ℕ) → 4096 + (o .sectors + o .lanes) * f .internal ≤ j → j < f .flogoff → getD m j 0 ≡ 0
   pub flog : (l : ℕ) → l < o .lanes → FreshLane (o .sectors) l m (f .flogoff + 64 * l)
   -- and from its end to the copy zero
   pub after-flog : (j : ℕ) → f .flogoff + 64 * o .lanes ≤ j → j < f .copyoff → getD m j 0 ≡ 0
@@ -70,11 +71,12 @@ pub record FreshArena (o : Wanted) (a : List ℕ) : Type 0 where
   -- every sector's map word is zero
   pub map : (s : ℕ) → s < o .sectors → mapWordIn (freshFigures (o .size) (o .sectors) (o .lanes)) ((makeOf o a) .arena) s ≡ 0
 
--- the smallest arena: one sector of 512 bytes and one lane
-abbrev pub smallest : Wanted
-smallest = record { size = 512; sectors = 1; lanes = 1; first = replicate 16 0; second = replicate 16 0 }
+-- the smallest arena of a sector size: one sector and one lane
+abbrev pub smallest : ℕ → Wanted
+smallest size = record { size = size; sectors = 1; lanes = 1; first = replicate 16 0; second = replicate 16 0 }
 
--- making answers by its line of the table, 0 exactly for what it accepts; a refusal changes nothing; an accepted one gives a made arena; and there is one
+-- making answers by its line of the table, 0 exactly for what it accepts; a refusal changes nothing; an accepted one gives a made arena; and of
+-- every sector size there is one
 pub record MakingClaim : Type 0 where
   -- 3 (S, E and lanes only), 1, 10
   pub order : line numberMake orderMake ≡ (3, wrongSizes) ∷ (1, wrongTotal) ∷ (10, wrongIdentifier) ∷ []
@@ -83,4 +85,4 @@ pub record MakingClaim : Type 0 where
   pub only : (o : Wanted) (a : List ℕ) → WantedOk o (length a) → (makeOf o a) .number ≡ 0
   pub refused : (o : Wanted) (a : List ℕ) → (makeOf o a) .number ≢ 0 → (makeOf o a) .arena ≡ a
   pub made : (o : Wanted) (a : List ℕ) → Small a → Small (o .first) → Small (o .second) → (makeOf o a) .number ≡ 0 → FreshArena o a
-  pub one : (makeOf smallest (replicate 20480 0)) .number ≡ 0
+  pub one : (S Z : ℕ) → SizePair S Z → (makeOf (smallest S) (replicate (freshLength S 1 1) 0)) .number ≡ 0

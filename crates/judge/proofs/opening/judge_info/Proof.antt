@@ -3,7 +3,7 @@ use mathlib.Core.Path.{sym, ap, _∙_}
 use borrow.Author.Tests.{eq-eqb, ne-eqb, not-false}
 use borrow.Author.Needs.{needs}
 use Rattle.infoblock.specs.Info.{figuresOf}
-use Rattle.infoblock.proofs.InfoBlock.{length-of}
+use Rattle.infoblock.proofs.InfoBlock.{length-in}
 use Rattle.machine.proofs.rules.Rules.{walked, stop, pass, through}
 use Rattle.judge.proofs.Parts.{block-whole}
 use Rattle.judge.proofs.opening.judge_info.Statement.{statement}
@@ -60,7 +60,7 @@ info-allowed-requires c κs =
     let at-if2 = c .before .before in
     let at-length-allowed = at-if2 .before in
     let l = sym (at-length-allowed .length-allowed .ensures) ∙ not-false (at-length-allowed .length-allowed .result) (at-if2 .if2 .left) in
-    (block-whole _ _ (c .before .info-block .ensures) (c .if3 .left), length-of _ l .2)
+    (block-whole _ _ (c .before .info-block .ensures) (c .if3 .left), length-in _ l .0, length-in _ l .1)
 
 flags-allowed-requires : tie.Need-flags-allowed-requires
 flags-allowed-requires c κs = block-whole _ _ (c .before .before .info-block .ensures) (c .before .if3 .left)

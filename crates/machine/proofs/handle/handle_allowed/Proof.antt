@@ -3,7 +3,7 @@ use mathlib.Core.Path.{sym, _∙_}
 use borrow.Author.Needs.{needs}
 use borrow.Author.Tests.{not-true, not-false}
 use Rattle.layout.proofs.Allowed.{allowed-of}
-use Rattle.infoblock.proofs.InfoBlock.{length-of}
+use Rattle.infoblock.proofs.InfoBlock.{length-in}
 use Rattle.machine.proofs.calls.Rule16.{handle-length, handle-slice, handle-layout, handle-figures, handle-last}
 use Rattle.machine.proofs.handle.handle_allowed.Statement.{statement}
 use Rattle.machine.proofs.handle.handle_allowed.Tie as tie
@@ -32,7 +32,7 @@ returns-3 c =
 figures-allowed-requires : tie.Need-figures-allowed-requires
 figures-allowed-requires c κs =
     let p = c .before .before .before .before in
-    length-of _ (sym (p .before .length-allowed .ensures) ∙ not-false (p .before .length-allowed .result) (p .if1 .left)) .2
+    length-in _ (sym (p .before .length-allowed .ensures) ∙ not-false (p .before .length-allowed .result) (p .if1 .left))
 
 returns-4 : tie.Need-returns-4
 returns-4 c =
