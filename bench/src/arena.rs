@@ -1,7 +1,7 @@
 //! Arenas of 16 MiB in memory, each at an address that is a multiple of 4,096.
 use crate::calls::Calls;
 use crate::library::Library;
-use btt::{Arena, Geometry, Handle, Identifiers, MIN_ARENA};
+use btt::{Arena, Geometry, Handle, Identifiers, MAX_SECTOR, MIN_ARENA};
 use std::ops::{Deref, DerefMut};
 use std::slice;
 
@@ -9,8 +9,12 @@ pub const LENGTH: usize = 16_777_216;
 pub const LANES: u32 = 4;
 
 /// Of each sector size the most sectors that 16 MiB hold with four lanes.
-pub const LARGE: Geometry = Geometry { size: 4096, sectors: 4085, lanes: LANES };
 pub const SMALL: Geometry = Geometry { size: 512, sectors: 32_484, lanes: LANES };
+pub const SMALL_AND_8: Geometry = Geometry { size: 520, sectors: 28_895, lanes: LANES };
+pub const SMALL_AND_16: Geometry = Geometry { size: 528, sectors: 28_895, lanes: LANES };
+pub const LARGE: Geometry = Geometry { size: 4096, sectors: 4085, lanes: LANES };
+pub const LARGE_AND_8: Geometry = Geometry { size: 4104, sectors: 4022, lanes: LANES };
+pub const ALL: [Geometry; 5] = [SMALL, SMALL_AND_8, SMALL_AND_16, LARGE, LARGE_AND_8];
 const SHORTEST: Geometry = Geometry { size: 512, sectors: 1, lanes: 1 };
 
 #[repr(C, align(4096))]
@@ -44,7 +48,7 @@ impl DerefMut for Pages {
 
 /// A sector's worth of bytes that differ from sector to sector and from turn to turn.
 pub fn sector_bytes(size: u32, seed: u32) -> Pages {
-    let mut bytes = Pages::zeroes(4096);
+    let mut bytes = Pages::zeroes(MAX_SECTOR);
     let mut state = seed.wrapping_mul(0x9E37_79B9) | 1;
     for word in bytes[..size as usize].chunks_exact_mut(4) {
         state ^= state << 13;

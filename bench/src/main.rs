@@ -5,7 +5,7 @@ mod library;
 mod measure;
 mod rows;
 
-use arena::{fresh, written, LARGE, SMALL};
+use arena::{fresh, written, ALL, LARGE, LARGE_AND_8, SMALL, SMALL_AND_8};
 use btt::Geometry;
 use rows::Bench;
 use std::fs;
@@ -27,12 +27,22 @@ fn rows_of(geometry: Geometry, size: &str) {
     rows::reads(&mut bench, &format!("read of {size} bytes"));
 }
 
+/// The rows in which blocks that are longer than a sector may tell.
+fn copying_rows_of(geometry: Geometry, size: &str) {
+    let mut bench = Bench::new(geometry, written(geometry));
+    rows::whole_writes(&mut bench, &format!("whole write of {size} bytes"));
+    rows::reads(&mut bench, &format!("read of {size} bytes"));
+}
+
 fn main() {
+    ALL.into_iter().for_each(|geometry| Bench::new(geometry, fresh(geometry)).agree());
     println!("{}. After every row library and plain Rust have left the same arenas and handles.\n", processor());
     println!("| One operation | Library | Plain Rust | Copy | Library / plain | Library / copy |");
     println!("|---|---|---|---|---|---|");
     rows_of(LARGE, "4,096");
+    copying_rows_of(LARGE_AND_8, "4,104");
     rows_of(SMALL, "512");
+    copying_rows_of(SMALL_AND_8, "520");
     let mut bench = Bench::new(LARGE, fresh(LARGE));
     rows::info_blocks(&mut bench, "info block that counts, one block summed", true);
     rows::info_blocks(&mut bench, "info block that counts, two blocks summed", false);

@@ -4,7 +4,7 @@ use crate::arena::{sector_bytes, shortest, Pages, LANES, LENGTH};
 use crate::calls::{Calls, Plain};
 use crate::library::Library;
 use crate::measure::{measure, Side, Times};
-use btt::{Geometry, Handle};
+use btt::{internal_size, Geometry, Handle};
 use std::env;
 use std::hint::black_box;
 
@@ -42,11 +42,48 @@ impl Bench {
         (&mut self.two[(side as usize + round) % 2], &mut self.buffer[..self.geometry.size as usize], &mut self.room)
     }
 
-    /// Prints a row, once it is seen that both sides left the same arena and handle.
-    fn print(&self, times: &Times, what: &str) {
+    /// The bytes of a sector and of a block.
+    fn sizes(&self) -> (usize, usize) {
+        let size = self.geometry.size;
+        (size as usize, internal_size(size).expect("a size of sectors") as usize)
+    }
+
+    /// Sees that both sides left the same arena and handle.
+    fn compare(&self, what: &str) {
         let [one, other] = &self.two;
         assert!(one.arena[..] == other.arena[..] && one.handle == other.handle, "the two arenas differ after: {what}");
+    }
+
+    /// Prints a row, once it is seen that both sides left the same.
+    fn print(&self, times: &Times, what: &str) {
+        self.compare(what);
         println!("{}", times.row(what));
+    }
+
+    /// Makes the calls on both sides, untimed: each sector is written with bytes of its own, some by steps, and read after an opening.
+    pub fn agree(mut self) {
+        const STEPPED: u32 = 20;
+        let (Geometry { size, sectors, .. }, [one, other]) = (self.geometry, &mut self.two);
+        for sector in 0..sectors {
+            let bytes = &sector_bytes(size, sector)[..size as usize];
+            if sector < STEPPED {
+                one.step_writes::<Library>([sector].into_iter(), bytes);
+                other.step_writes::<Plain>([sector].into_iter(), bytes);
+            } else {
+                one.write::<Library>(sector, bytes);
+                other.write::<Plain>(sector, bytes);
+            }
+        }
+        one.open::<Library>(1);
+        other.open::<Plain>(1);
+        for sector in 0..sectors {
+            let bytes = &sector_bytes(size, sector)[..size as usize];
+            assert!(
+                one.read::<Library>(sector) == bytes && other.read::<Plain>(sector) == bytes,
+                "sector {sector} of {size} bytes"
+            );
+        }
+        self.compare(&format!("writes of {size} bytes"));
     }
 }
 
@@ -58,10 +95,14 @@ impl Opened {
         }
     }
 
+    fn write<C: Calls>(&mut self, sector: u32, bytes: &[u8]) {
+        let answer = C::write(&mut self.arena, &mut self.handle, sector % LANES, sector, bytes);
+        assert_eq!(answer, 0, "a whole write");
+    }
+
     fn write_round<C: Calls>(&mut self, bytes: &[u8]) {
         for sector in 0..self.handle.sectors {
-            let answer = C::write(&mut self.arena, &mut self.handle, sector % LANES, sector, bytes);
-            assert_eq!(answer, 0, "a whole write");
+            self.write::<C>(sector, bytes);
         }
     }
 
@@ -74,6 +115,12 @@ impl Opened {
             }
             assert_eq!(answers, 0, "a stepped write");
         }
+    }
+
+    fn read<C: Calls>(&self, sector: u32) -> Vec<u8> {
+        let mut buffer = vec![0; self.handle.sector_size()];
+        assert_eq!(C::read(&self.arena, &self.handle, sector, &mut buffer), 0, "a read");
+        buffer
     }
 
     fn read_round<C: Calls>(&mut self, buffer: &mut [u8]) {
@@ -122,13 +169,15 @@ pub fn whole_writes(bench: &mut Bench, what: &str) {
     if !asked(what) {
         return;
     }
-    let Geometry { size, sectors, .. } = bench.geometry;
+    let (sectors, (size, internal)) = (bench.geometry.sectors, bench.sizes());
     let measured = measure(150, sectors, |side, round| {
         let (one, bytes, room) = bench.own(side, round);
         match side {
             Side::Library => one.write_round::<Library>(bytes),
             Side::Plain => one.write_round::<Plain>(bytes),
-            Side::Copy => room.chunks_exact_mut(size as usize).take(sectors as usize).for_each(|block| copy(block, bytes)),
+            Side::Copy => {
+                room.chunks_exact_mut(internal).take(sectors as usize).for_each(|block| copy(&mut block[..size], bytes))
+            }
         }
     });
     bench.print(&measured, what);
@@ -140,7 +189,7 @@ pub fn stepped_writes(bench: &mut Bench, what: &str, per_step: bool) {
         return;
     }
     const BATCH: u32 = 16;
-    let Geometry { size, sectors, .. } = bench.geometry;
+    let (sectors, (size, internal)) = (bench.geometry.sectors, bench.sizes());
     let steps = bench.two[0].handle.steps();
     let operations = if per_step { BATCH * steps } else { BATCH };
     let measured = measure(150, operations, |side, round| {
@@ -151,7 +200,7 @@ pub fn stepped_writes(bench: &mut Bench, what: &str, per_step: bool) {
             Side::Plain => one.step_writes::<Plain>(batch, bytes),
             Side::Copy => {
                 for sector in batch {
-                    copy_sector(&mut room[(sector * size) as usize..][..size as usize], bytes, per_step);
+                    copy_sector(&mut room[sector as usize * internal..][..size], bytes, per_step);
                 }
             }
         }
@@ -174,15 +223,15 @@ pub fn reads(bench: &mut Bench, what: &str) {
     if !asked(what) {
         return;
     }
-    let Geometry { size, sectors, .. } = bench.geometry;
+    let (sectors, (size, internal)) = (bench.geometry.sectors, bench.sizes());
     let measured = measure(150, sectors, |side, round| {
         let (one, buffer, room) = bench.own(side, round);
         match side {
             Side::Library => one.read_round::<Library>(buffer),
             Side::Plain => one.read_round::<Plain>(buffer),
             Side::Copy => {
-                for block in room.chunks_exact(size as usize).take(sectors as usize) {
-                    copy(buffer, block);
+                for block in room.chunks_exact(internal).take(sectors as usize) {
+                    copy(buffer, &block[..size]);
                     black_box(&buffer);
                 }
             }

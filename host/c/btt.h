@@ -55,11 +55,18 @@ enum btt_layout {
     BTT_LAYOUT_FAR = 32         /* 16 bytes of padding stand between them */
 };
 
+/*
+ * The size of a sector is 512, 520, 528, 4,096 or 4,104 bytes. The block that holds its bytes has the internal size, which is the size
+ * rounded up to a multiple of 64: 512, 576, 576, 4,096 or 4,160. No other pair is allowed. Sector buffers and the number of a write's stores
+ * go by the size; the places of the blocks and the arena's length go by the internal size. The rest of a block, which is its bytes after
+ * those of the sector, is never stored to and never looked at.
+ */
 enum {
     BTT_MIN_ARENA = 20480,      /* an arena's length is a multiple of 4,096 from here */
     BTT_MAX_ARENA = 16777216,   /* to here */
     BTT_INFO_SIZE = 4096,       /* bytes of an info block: the first and the last of an arena */
     BTT_ID_SIZE = 16,           /* bytes of an identifier */
+    BTT_MAX_SECTOR = 4104,      /* bytes of the longest sector: a buffer so long has room for a sector of every arena */
     BTT_MAX_LANES = 16,
     BTT_LANE_SIZE = 28,         /* bytes of a struct btt_lane */
     BTT_HANDLE_SIZE = 512,      /* bytes of a struct btt_handle */
@@ -86,9 +93,9 @@ struct btt_lane {
 struct btt_handle {
     uint64_t length;                        /* the arena's length in bytes */
     uint64_t data, map, flog, copy;         /* the byte offsets at which its parts start */
-    uint32_t size;                          /* bytes of a sector: 512 or 4,096 */
+    uint32_t size;                          /* bytes of a sector: 512, 520, 528, 4,096 or 4,104 */
     uint32_t sectors;
-    uint32_t internal;                      /* bytes of a block: those of a sector */
+    uint32_t internal;                      /* bytes of a block: the size rounded up to a multiple of 64 */
     uint32_t blocks;                        /* sectors + lanes */
     uint32_t lanes;                         /* 1 to 16 */
     uint32_t layout;                        /* the one that opening was told, 16 or 32; another value is answered with 16 */
@@ -109,6 +116,8 @@ typedef char btt_handle_is_512_bytes[sizeof(struct btt_handle) == BTT_HANDLE_SIZ
 /*
  * Makes an arena of that many sectors of that size, with so many lanes, in a slice of just the length that this works out: both info
  * blocks and every byte after the data blocks are written, the data blocks are not touched. A cut while making promises nothing.
+ * With each part rounded up to a multiple of 4,096 the length is 4,096 + internal size x (sectors + lanes) + 4 x sectors + 64 x lanes +
+ * 4,096.
  * Answers 3 (size, sectors and lanes), 1, 10; a refusal changes nothing. Making gives no handle: open the arena.
  */
 uint32_t btt_make(uint8_t *arena, size_t arena_length, uint32_t size, uint32_t sectors, uint32_t lanes, const uint8_t *first_id,
@@ -139,8 +148,8 @@ uint32_t btt_cut_open(uint8_t *arena, size_t arena_length, uint8_t *work, size_t
                       uint32_t *mended);
 
 /*
- * Reads a sector into a buffer of a sector's length: what the last finished write stored, or zeroes where the sector was never written
- * or its map word has bit 31 (Zero) alone; with bit 30 (Error) alone it is bad.
+ * Reads a sector into a buffer of a sector's length, the handle's size: what the last finished write stored, or zeroes where the sector
+ * was never written or its map word has bit 31 (Zero) alone; with bit 30 (Error) alone it is bad.
  * Answers 16, 9, 10, 7 and 18 (of that sector's map word), 15; a refusal leaves the buffer.
  */
 uint32_t btt_read(const uint8_t *arena, size_t arena_length, const struct btt_handle *handle, uint32_t sector, uint8_t *buffer,

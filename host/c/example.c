@@ -64,10 +64,16 @@ static size_t units(size_t bytes)
     return (bytes + 4095) / 4096 * 4096;
 }
 
+/* The bytes of a block: those of a sector, rounded up to a multiple of 64. */
+static size_t internal_size(size_t size)
+{
+    return (size + 63) / 64 * 64;
+}
+
 /* An arena is an info block, the data blocks, the map, the flog and a copy of the info block. */
 static size_t arena_length(size_t size, size_t sectors, size_t lanes)
 {
-    return BTT_INFO_SIZE + units(size * (sectors + lanes)) + units(4 * sectors) + units(64 * lanes) + BTT_INFO_SIZE;
+    return BTT_INFO_SIZE + units(internal_size(size) * (sectors + lanes)) + units(4 * sectors) + units(64 * lanes) + BTT_INFO_SIZE;
 }
 
 static void make(struct disk *d)

@@ -1,4 +1,4 @@
-/* What every C test uses: checks that say where they failed, little-endian words, patterns, the checksum of an info block, and the layout. */
+/* What every C test uses: checks that say where they failed, little-endian words, patterns, the checksum of an info block, layout and sizes. */
 #ifndef CHECK_H
 #define CHECK_H
 
@@ -111,10 +111,46 @@ static inline size_t units(size_t bytes)
     return (bytes + 4095) / 4096 * 4096;
 }
 
+/* The bytes of a sector with those of a block: every pair that there is. */
+static const uint32_t pairs[][2] = {{512, 512}, {520, 576}, {528, 576}, {4096, 4096}, {4104, 4160}};
+
+/* Numbers that are tried as either of the two. */
+static const uint32_t tried_sizes[] = {
+    0, 1, 64, 511, 512, 513, 519, 520, 521, 528, 532, 575, 576, 577, 640, 1024, 4032, 4095, 4096, 4097, 4104, 4108, 4160, 4224, 0x10200, 0x80000208,
+    0xFFFFFFFF,
+};
+
+static inline int is_pair(uint32_t size, uint32_t internal)
+{
+    for (size_t i = 0; i < COUNT(pairs); i++) {
+        if (pairs[i][0] == size && pairs[i][1] == internal) {
+            return 1;
+        }
+    }
+    return 0;
+}
+
+/* The bytes of a block for sectors of that size. */
+static inline size_t internal_size(size_t size)
+{
+    return (size + 63) / 64 * 64;
+}
+
 /* The length that making works out. */
 static inline size_t arena_length(size_t size, size_t sectors, size_t lanes)
 {
-    return 4096 + units(size * (sectors + lanes)) + units(4 * sectors) + units(64 * lanes) + 4096;
+    return 4096 + units(internal_size(size) * (sectors + lanes)) + units(4 * sectors) + units(64 * lanes) + 4096;
+}
+
+/* Whether the rest of each block, its bytes after those of the sector, is alike in two images of an arena whose data start at 4,096. */
+static inline int same_rest(const uint8_t *one, const uint8_t *other, size_t size, size_t blocks)
+{
+    for (size_t at = 4096 + size; blocks > 0; at += internal_size(size), blocks--) {
+        if (memcmp(one + at, other + at, internal_size(size) - size) != 0) {
+            return 0;
+        }
+    }
+    return 1;
 }
 
 #endif

@@ -1,12 +1,13 @@
 /*
- * Arenas of 16 MiB, the largest there are, of both sector sizes and 16 lanes, in both layouts: every sector written on the lanes in turn,
- * then rounds of writes of which some are cut, with an opening after each round and every sector read.
+ * Arenas of 16 MiB, the largest there are, of every sector size and 16 lanes, in both layouts: every sector written on the lanes in turn,
+ * then rounds of writes of which some are cut, with an opening after each round and every sector read. The rest of each block stays as it
+ * was before making.
  */
 #include "check.h"
 
-enum { LANES = 16, ROUNDS = 6, MOST_SECTORS = 32768 };
+enum { LANES = 16, ROUNDS = 3, MOST_SECTORS = 32768 };
 
-static uint8_t *arena, work[MOST_SECTORS];
+static uint8_t *arena, *rubbish, work[MOST_SECTORS];     /* the arena, and what its bytes were before it was made */
 static struct btt_handle handle;
 static uint32_t version[MOST_SECTORS];      /* the plain row: which write each sector has, 0 for none */
 static uint32_t last_version;
@@ -25,12 +26,13 @@ static void open_arena(uint32_t expected)
     uint32_t mended;
 
     CHECK(btt_open(arena, BTT_MAX_ARENA, work, sizeof work, layout, &handle, &mended) == 0);
-    CHECK(mended == expected && handle.lanes == LANES);
+    CHECK(mended == expected && handle.lanes == LANES && handle.internal == internal_size(handle.size));
+    CHECK(same_rest(arena, rubbish, handle.size, handle.blocks));
 }
 
 static void read_all(void)
 {
-    static uint8_t bytes[4096], expected[4096];
+    static uint8_t bytes[BTT_MAX_SECTOR], expected[BTT_MAX_SECTOR];
 
     for (uint32_t sector = 0; sector < handle.sectors; sector++) {
         bytes_of(sector, version[sector], expected);
@@ -41,7 +43,7 @@ static void read_all(void)
 
 static void write_whole(uint32_t lane, uint32_t sector)
 {
-    static uint8_t bytes[4096];
+    static uint8_t bytes[BTT_MAX_SECTOR];
 
     version[sector] = ++last_version;
     bytes_of(sector, last_version, bytes);
@@ -51,7 +53,7 @@ static void write_whole(uint32_t lane, uint32_t sector)
 /* All lanes write at once, a step at a time in turn, to sectors spread over the arena; lane i stops after its own number of stores. */
 static uint32_t cut_round(uint32_t round)
 {
-    static uint8_t bytes[LANES][4096];
+    static uint8_t bytes[LANES][BTT_MAX_SECTOR];
     uint32_t stores = handle.size / 4 + 5, limit[LANES], sector[LANES], pending = 0;
 
     for (uint32_t lane = 0; lane < LANES; lane++) {
@@ -97,6 +99,7 @@ static void try_size(uint32_t size, uint32_t sectors)
 
     CHECK(arena_length(size, sectors, LANES) == BTT_MAX_ARENA && sectors + LANES <= MOST_SECTORS);
     memset(version, 0, sizeof version);
+    memcpy(arena, rubbish, BTT_MAX_ARENA);
     CHECK(btt_make(arena, BTT_MAX_ARENA, size, sectors, LANES, first_id, 16, second_id, 16) == 0);
     open_arena(0);
     read_all();
@@ -123,15 +126,18 @@ static void try_size(uint32_t size, uint32_t sectors)
 
 int main(void)
 {
+    static const uint32_t sectors[] = {32472, 28883, 28883, 4073, 4010};
+
     arena = malloc(BTT_MAX_ARENA);
-    CHECK(arena != NULL);
-    memset(arena, 0xA5, BTT_MAX_ARENA);
-    for (size_t i = 0; i < COUNT(layouts); i++) {
-        layout = layouts[i];
-        try_size(512, 32472);
-        try_size(4096, 4073);
+    rubbish = malloc(BTT_MAX_ARENA);
+    CHECK(arena != NULL && rubbish != NULL);
+    pattern(rubbish, BTT_MAX_ARENA, 3);
+    for (size_t i = 0; i < COUNT(layouts) * COUNT(pairs); i++) {
+        layout = layouts[i / COUNT(pairs)];
+        try_size(pairs[i % COUNT(pairs)][0], sectors[i % COUNT(pairs)]);
     }
     free(arena);
+    free(rubbish);
     printf("large_arena: 16 MiB, %u writes, %lu checks\n", (unsigned)last_version, checks);
     return 0;
 }

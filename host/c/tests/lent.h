@@ -1,6 +1,7 @@
 /*
  * What the tests of the calls lend: each slice, the handle and each number in pages of its own, with guard bytes around it in them and pages
- * that cannot be touched before and after. A call is checked to answer as it must and to change no byte but of the parts that it may.
+ * that cannot be touched before and after. A call is checked to answer as it must and to change no byte but of the parts that it may, and
+ * never the rest of a block, which is rubbish as it was lent.
  */
 #ifndef LENT_H
 #define LENT_H
@@ -35,6 +36,7 @@ static int ends_at_page;    /* whether a part ends where its pages end, or begin
 
 static uint8_t *arena;
 static struct btt_handle *handle;
+static uint32_t made_size, made_blocks;     /* of the last arena made: the bytes of a sector, and how many blocks */
 
 /* A lent slice as a call takes it. */
 #define SLICE(part) (lent[part].length == 0 && ends_at_page ? NULL : lent[part].at), lent[part].length
@@ -85,6 +87,12 @@ static int kept(const struct lent *x, int may_change)
     return memcmp(x->pages, x->copy, before) == 0 && memcmp(x->pages + after, x->copy + after, x->room - after) == 0;
 }
 
+/* The bytes of a part as they were before the last call. */
+static inline const uint8_t *was(enum part part)
+{
+    return lent[part].copy + (lent[part].at - lent[part].pages);
+}
+
 static void answered(uint32_t want, uint32_t got, unsigned may, const char *file, int line, const char *call)
 {
     static const char *const names[] = {
@@ -102,6 +110,10 @@ static void answered(uint32_t want, uint32_t got, unsigned may, const char *file
             snprintf(text, sizeof text, "%s changed a byte of or beside the %s", call, names[i]);
             failed(file, line, text);
         }
+    }
+    if (may & ONLY(ARENA) && !same_rest(arena, was(ARENA), made_size, made_blocks)) {
+        snprintf(text, sizeof text, "%s changed the rest of a block", call);
+        failed(file, line, text);
     }
     answers |= 1u << want;
     checks++;
@@ -121,12 +133,6 @@ static void on_touch(int signal)
     _exit(write(2, text, strlen(text)) < 0 ? 2 : 1);
 }
 
-/* The bytes of a part as they were before the last call. */
-static inline const uint8_t *was(enum part part)
-{
-    return lent[part].copy + (lent[part].at - lent[part].pages);
-}
-
 /* The byte of the handle at which the record of a lane starts. */
 static inline size_t record_at(uint32_t lane)
 {
@@ -136,7 +142,13 @@ static inline size_t record_at(uint32_t lane)
 /* The library's calls over the lent parts. */
 static inline uint32_t make(uint32_t size, uint32_t sectors, uint32_t lanes)
 {
-    return btt_make(SLICE(ARENA), size, sectors, lanes, SLICE(FIRST_ID), SLICE(SECOND_ID));
+    uint32_t answer = btt_make(SLICE(ARENA), size, sectors, lanes, SLICE(FIRST_ID), SLICE(SECOND_ID));
+
+    if (answer == 0) {
+        made_size = size;
+        made_blocks = sectors + lanes;
+    }
+    return answer;
 }
 
 static inline uint32_t info_block(void)
@@ -215,7 +227,7 @@ static inline void fresh(uint32_t size, uint32_t sectors, uint32_t lanes)
     lend(STOPPED, 8);
     CALL(0, ONLY(ARENA), make(size, sectors, lanes));
     CALL(0, ONLY(WORK) | ONLY(HANDLE) | ONLY(MENDED), open_arena());
-    CHECK(mended() == 0 && handle->layout == layout);
+    CHECK(mended() == 0 && handle->layout == layout && handle->size == size && handle->internal == internal_size(size));
 }
 
 /* The arena of case 5: its figures and where its parts start. */

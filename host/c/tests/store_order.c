@@ -1,7 +1,7 @@
 /*
  * The order and the width of the stores to the arena in the compiled library: a step is one store of 4 bytes, an opening one for each pending
  * lane in rising order, a whole write its data and then five of 4 bytes; nothing else stores, and no refused call does. All of it is watched
- * in both layouts.
+ * in both layouts, and writes and mending with blocks that are as long as a sector and with longer ones.
  *
  * Asked for a file, the program writes there the address of each instruction of its own that ran while it watched, and which of them stored
  * to the arena, for machine_code.py to look up.
@@ -10,7 +10,7 @@
 
 static struct btt_handle handle;
 static uint32_t mended;
-static uint8_t work[256], buffer[4096];
+static uint8_t work[256], buffer[BTT_MAX_SECTOR];
 
 /* Stores that are known are watched first, some of them of the bytes that are there already. */
 static void known_stores(void)
@@ -66,7 +66,7 @@ static uint64_t place(const struct btt_lane *r, uint32_t lane, uint32_t k)
     uint32_t words = handle.size / 4;
 
     if (k < words) {
-        return handle.data + (uint64_t)r->block * handle.size + 4 * k;
+        return handle.data + (uint64_t)r->block * handle.internal + 4 * k;
     }
     return k < words + 4 ? handle.flog + 64 * lane + layout * r->half + 4 * (k - words) : handle.map + 4 * r->sector;
 }
@@ -160,9 +160,9 @@ static void watch_refused_openings(void)
         size_t at;
         uint32_t value, answer;
     } damage[] = {
-        {52, 1, 3}, {48, 1, 4}, {40972, 0, 6}, {40972, 4, 6}, {40988, 1, 6}, {41152, 60, 6}, {36864, 0xC0000040, 7}, {37100, 0x40000040, 7},
-        {36864, 1, 18}, {36892, 7, 18}, {37100, 0x3FFFFFFF, 18}, {40992, 1, 18}, {41212, 0x80000000, 18}, {36884, 0xC0000007, 8},
-        {36888, 0x80000007, 8},
+        {52, 1, 3}, {56, 520, 3}, {64, 576, 3}, {48, 1, 4}, {40972, 0, 6}, {40972, 4, 6}, {40988, 1, 6}, {41152, 60, 6},
+        {36864, 0xC0000040, 7}, {37100, 0x40000040, 7}, {36864, 1, 18}, {36892, 7, 18}, {37100, 0x3FFFFFFF, 18}, {40992, 1, 18},
+        {41212, 0x80000000, 18}, {36884, 0xC0000007, 8}, {36888, 0x80000007, 8},
     };
 
     for (size_t i = 0; i < COUNT(damage); i++) {
@@ -232,17 +232,18 @@ static void watch_other_calls(void)
     STORES_NOTHING(18, btt_write(arena, length, &handle, 1, 6, buffer, 512));
 }
 
-/* A broken record, a layout that is none, and a broken figure. */
+/* A broken record, a layout that is none, a broken figure, and sizes that are no pair. */
 static void watch_forged_handles(void)
 {
-    struct btt_handle forged[3];
+    struct btt_handle forged[4];
 
     fresh(512, 60, 4);
     watch_steps(0, 7, 2);
-    forged[0] = forged[1] = forged[2] = handle;
+    forged[0] = forged[1] = forged[2] = forged[3] = handle;
     forged[0].lane[3].busy = 2;
     forged[1].layout = 48;
     forged[2].copy = 0;
+    forged[3].internal = 576;
     tracing = 1;
     for (size_t i = 0; i < COUNT(forged); i++) {
         STORES_NOTHING(16, btt_write(arena, length, &forged[i], 1, 3, buffer, 512));
@@ -250,14 +251,17 @@ static void watch_forged_handles(void)
     }
 }
 
-/* Whole writes and writes by steps on each lane in turn, so that both halves and all sequence numbers occur, over all four map states. */
-static void watch_writes(uint32_t size, uint32_t sectors, uint32_t lanes)
+/*
+ * Whole writes on each lane in turn, over all four map states, and writes by steps; in four turns both halves and all sequence numbers
+ * occur.
+ */
+static void watch_writes(uint32_t size, uint32_t sectors, uint32_t lanes, uint32_t turns)
 {
     fresh(size, sectors, lanes);
     for (uint32_t i = 0; i < 4 && i < sectors; i++) {
         put32(arena + handle.map + 4 * i, i << 30 | i);
     }
-    for (uint32_t i = 0; i < 4 * lanes; i++) {
+    for (uint32_t i = 0; i < turns * lanes; i++) {
         tracing = i % 5 == 0;
         pattern(buffer, size, i);
         watch_write(i % lanes, i % sectors);
@@ -265,7 +269,7 @@ static void watch_writes(uint32_t size, uint32_t sectors, uint32_t lanes)
     memset(buffer, 0, size);
     watch_write(0, 0);
     watch_write(0, 0);
-    for (uint32_t i = 0; i < 2; i++) {
+    for (uint32_t i = 0; i < (turns + 1) / 2; i++) {
         pattern(buffer, size, i);
         watch_steps(lanes - 1, i, size / 4 + 5);
     }
@@ -292,11 +296,15 @@ int main(int count, char **words)
     known_stores();
     for (size_t i = 0; i < COUNT(layouts); i++) {
         layout = layouts[i];
-        watch_writes(512, 60, 4);
-        watch_writes(4096, 4, 2);
+        watch_writes(512, 60, 4, 4);
+        watch_writes(520, 60, 4, 4);
+        watch_writes(4096, 4, 2, 1);
+        watch_writes(4104, 4, 2, 1);
         watch_mending(512, 60, 4);
         watch_mending(512, 20, 16);
+        watch_mending(528, 60, 4);
         watch_mending(4096, 5, 2);
+        watch_mending(4104, 5, 2);
         watch_refused_openings();
         watch_refused_layouts();
         watch_other_calls();

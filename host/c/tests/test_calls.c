@@ -1,4 +1,4 @@
-/* The calls with a handle, from C, in both layouts: every answer of their rows and the order among them, and what each must leave. */
+/* The calls with a handle, from C, in both layouts: every answer of their rows and their order, each size, and what each must leave. */
 #include "lent.h"
 
 /* The calls again with each of these sector buffers, none of which is a sector long. */
@@ -184,6 +184,65 @@ static void test_bad_figures(void)
     all_with_handle(16);
 }
 
+/* A handle's two sizes are judged as a pair, in an arena in which the blocks of any would fit: just the five are answered otherwise. */
+static void test_pairs(void)
+{
+    fresh(4104, 3, 2);
+    CALL(0, ONLY(HANDLE), start(0, 2));
+    for (size_t i = 0; i < COUNT(tried_sizes) * COUNT(tried_sizes); i++) {
+        handle->size = tried_sizes[i / COUNT(tried_sizes)];
+        handle->internal = tried_sizes[i % COUNT(tried_sizes)];
+        if (is_pair(handle->size, handle->internal)) {
+            lend(BUFFER, handle->size);
+            CALL(0, ONLY(BUFFER), read_sector(0));
+            CALL(9, NOTHING, read_sector(3));
+            CALL(0, ONLY(OFFSET), next_store(0));
+            CHECK(get_bytes(lent[OFFSET].at, 8) == 4096 + 3 * handle->internal);
+        } else {
+            all_with_handle(16);
+        }
+    }
+}
+
+/* For every size a sector buffer is just so long: one that is as long as a block, or as another sector, is not. */
+static void test_buffers(void)
+{
+    for (size_t i = 0; i < COUNT(pairs); i++) {
+        uint32_t size = pairs[i][0];
+
+        fresh(size, 3, 2);
+        CALL(0, ONLY(HANDLE), start(0, 2));
+        for (size_t j = 0; j < COUNT(tried_sizes) && tried_sizes[j] <= 4224; j++) {
+            int fits = tried_sizes[j] == size;
+
+            lend(BUFFER, tried_sizes[j]);
+            CALL(fits ? 0 : 10, fits ? ONLY(BUFFER) : NOTHING, read_sector(1));
+            CALL(fits ? 0 : 10, fits ? STEPPED : NOTHING, step(0));
+            CALL(fits ? 0 : 10, fits ? STEPPED : NOTHING, write_sector(1, 1));
+        }
+    }
+}
+
+/*
+ * Of a handle the stores made go by the size, and the room for the blocks by the internal size: with the data 4,096 bytes later they do not
+ * fit before the map, though blocks that are just as long as a sector of 520, 528 or 4,104 bytes would.
+ */
+static void test_made_and_room(void)
+{
+    static const uint32_t stores[] = {133, 135, 137, 1029, 1031};
+
+    for (size_t i = 0; i < COUNT(pairs); i++) {
+        fresh(pairs[i][0], i < 3 ? 100 : 70, i < 3 ? 4 : 2);
+        handle->lane[1].made = stores[i] - 1;
+        CALL(0, ONLY(BUFFER), read_sector(0));
+        handle->lane[1].made = stores[i];
+        all_with_handle(16);
+        handle->lane[1].made = 0;
+        handle->data += 4096;
+        all_with_handle(16);
+    }
+}
+
 #define WORD(name) offsetof(struct btt_lane, name)
 
 /* A word out of range is 16 in the record of a lane, and is passed over past the lanes. */
@@ -329,8 +388,8 @@ static void test_texts(void)
 
 int main(void)
 {
-    static const test tests[] = {test_read, test_start, test_step, test_write, test_looks, test_bad_figures, test_bad_records, test_sloppy,
-                                 test_exchanged_layout, test_kept, test_texts};
+    static const test tests[] = {test_read, test_start, test_step, test_write, test_looks, test_bad_figures, test_pairs, test_buffers,
+                                 test_made_and_room, test_bad_records, test_sloppy, test_exchanged_layout, test_kept, test_texts};
 
     return run("test_calls", tests, COUNT(tests), COUNT(layouts));
 }

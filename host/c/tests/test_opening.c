@@ -1,6 +1,6 @@
 /*
  * Making, the info block that counts, opening and cut openings from C, in both layouts: every answer of their rows and the order among them,
- * the empty slice, numbers that are no layout, and what each must leave as it was.
+ * the empty slice, numbers that are no layout, pairs of sizes that are none, and what each must leave as it was.
  */
 #include "lent.h"
 
@@ -17,23 +17,44 @@ static void test_make(void)
         {512, 60, 4, 49151, 16, 16, 1}, {512, 60, 4, 45056, 16, 16, 1}, {512, 60, 4, 53248, 16, 16, 1}, {512, 60, 4, 0, 16, 16, 1},
         {512, 0xFFFFFFFF, 16, 49152, 16, 16, 1}, {4096, 60, 4, 49152, 16, 16, 1}, {512, 60, 4, 45056, 15, 16, 1},
         {512, 60, 4, 49152, 15, 16, 10}, {512, 60, 4, 49152, 16, 17, 10}, {512, 60, 4, 49152, 0, 16, 10}, {512, 60, 4, 49152, 16, 0, 10},
+        /* the other sizes, the last length of each being that of blocks which are just as long as a sector */
+        {520, 60, 4, 53248, 16, 16, 0}, {520, 1, 1, 20480, 16, 16, 0}, {520, 100, 4, 77824, 16, 16, 0}, {520, 100, 4, 73728, 16, 16, 1},
+        {528, 60, 4, 53248, 16, 16, 0}, {528, 1, 1, 20480, 16, 16, 0}, {528, 100, 4, 77824, 16, 16, 0}, {528, 100, 4, 73728, 16, 16, 1},
+        {4104, 3, 2, 40960, 16, 16, 0}, {4104, 1, 1, 28672, 16, 16, 0}, {4104, 70, 2, 319488, 16, 16, 0}, {4104, 70, 2, 315392, 16, 16, 1},
+        {520, 3, 4, 53248, 16, 16, 3}, {528, 60, 4, 53248, 16, 15, 10}, {4104, 3, 0, 40960, 16, 16, 3}, {4104, 3, 2, 40960, 0, 16, 10},
+        {576, 60, 4, 53248, 16, 16, 3}, {576, 60, 4, 0, 0, 0, 3}, {4160, 3, 2, 40960, 16, 16, 3}, {519, 60, 4, 53248, 16, 16, 3},
     };
 
     fresh_case();
     for (size_t i = 0; i < COUNT(rows); i++) {
-        size_t data = (size_t)rows[i].size * (rows[i].sectors + (size_t)rows[i].lanes);
+        size_t data_end = 4096 + internal_size(rows[i].size) * (rows[i].sectors + (size_t)rows[i].lanes), flog = rows[i].length - 8192;
 
         lend(ARENA, rows[i].length);
         lend(FIRST_ID, rows[i].first);
         lend(SECOND_ID, rows[i].second);
         CALL(rows[i].answer, rows[i].answer == 0 ? ONLY(ARENA) : NOTHING, make(rows[i].size, rows[i].sectors, rows[i].lanes));
         if (rows[i].answer == 0) {
-            CHECK(memcmp(arena + 4096, was(ARENA) + 4096, data) == 0);
+            CHECK(memcmp(arena + 4096, was(ARENA) + 4096, data_end - 4096) == 0);
+            CHECK(all_bytes(arena + data_end, flog - data_end, 0));
             CHECK(memcmp(arena + 16, lent[FIRST_ID].at, 16) == 0 && memcmp(arena + 32, lent[SECOND_ID].at, 16) == 0);
             CHECK(memcmp(arena, arena + rows[i].length - 4096, 4096) == 0);
             CHECK(memcmp(arena, "BTT_ARENA_INFO\0", 16) == 0);
         }
     }
+}
+
+/* Every number but the five is refused, whatever else is wrong. */
+static void test_make_sizes(void)
+{
+    fresh_case();
+    for (size_t i = 0; i < COUNT(tried_sizes); i++) {
+        int known = is_pair(tried_sizes[i], (uint32_t)internal_size(tried_sizes[i]));
+
+        CALL(known ? 1 : 3, NOTHING, make(tried_sizes[i], SECTORS + 50, LANES));
+    }
+    lend(FIRST_ID, 15);
+    CALL(3, NOTHING, make(576, SECTORS, LANES));
+    CALL(3, NOTHING, make(4160, SECTORS, LANES));
 }
 
 static void test_info_block(void)
@@ -148,6 +169,47 @@ static const struct {
     {0, {{MAP + 240, 4, 1}, {FLOG - 1, 1, 0xFF}}}, {0, {{FLOG + 256, 4, 1}, {FLOG + 288, 8, 1}}}, {0, {{FLOG + 319, 1, 0xFF}, {COPY - 1, 1, 1}}},
     {0, {{120, 8, 1}, {4087, 1, 0xFF}}},
 };
+
+/*
+ * Every pair of the numbers tried, in an arena whose data part has room for the blocks of any: just the five open, and say so in the
+ * handle. A sector is then read into a buffer of its own size.
+ */
+static void test_open_pairs(void)
+{
+    fresh(4104, 3, 2);
+    for (size_t i = 0; i < COUNT(tried_sizes) * COUNT(tried_sizes); i++) {
+        uint32_t size = tried_sizes[i / COUNT(tried_sizes)], internal = tried_sizes[i % COUNT(tried_sizes)];
+
+        put32(arena + 56, size);
+        put32(arena + 64, internal);
+        seal(arena);
+        if (!is_pair(size, internal)) {
+            refused_opening(3);
+            continue;
+        }
+        CALL(0, OPENED, open_arena());
+        CHECK(handle->size == size && handle->internal == internal && handle->blocks == 5);
+        lend(BUFFER, size);
+        put32(arena + handle->map + 4, 0xC0000003);
+        CALL(0, ONLY(BUFFER), read_sector(1));
+        CHECK(memcmp(lent[BUFFER].at, arena + 4096 + 3 * internal, size) == 0);
+        put32(arena + handle->map + 4, 0);
+    }
+}
+
+/* It is blocks of the internal size that must fit before the map: here such as are just as long as a sector would. */
+static void test_open_rooms(void)
+{
+    static const uint32_t rows[][3] = {{520, 100, 4}, {528, 100, 4}, {4104, 70, 2}};
+
+    for (size_t i = 0; i < COUNT(rows); i++) {
+        fresh(rows[i][0], rows[i][1], rows[i][2]);
+        CHECK(8192 + handle->size * handle->blocks <= handle->map);
+        put_bytes(arena + 88, 8, 8192);
+        seal(arena);
+        refused_opening(3);
+    }
+}
 
 /* The first block has the fault and a fitting checksum, so that the copy, which is faultless, must not count. */
 static void test_open_damaged(void)
@@ -325,8 +387,9 @@ static void test_cut_open(void)
 
 int main(void)
 {
-    static const test tests[] = {test_make, test_info_block, test_open_lengths, test_open_damaged, test_lane_bytes, test_open_sloppy,
-                                 test_sloppy_and_pending, test_other_layout, test_open_gives, test_cut_open};
+    static const test tests[] = {test_make, test_make_sizes, test_info_block, test_open_lengths, test_open_pairs, test_open_rooms,
+                                 test_open_damaged, test_lane_bytes, test_open_sloppy, test_sloppy_and_pending, test_other_layout,
+                                 test_open_gives, test_cut_open};
 
     return run("test_opening", tests, COUNT(tests), COUNT(layouts));
 }

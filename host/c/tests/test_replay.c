@@ -1,6 +1,6 @@
 /*
- * Replays of run logs from C: writes in steps and cut, refused records, every way in which a record can be wrong, buffers that are short, and what
- * a replay must leave as it was. A replay is in layout 16.
+ * Replays of run logs from C: writes in steps, of every sector size, and cut, refused records, every way in which a record can be wrong, buffers
+ * that are short, and what a replay must leave as it was. A replay is in layout 16.
  */
 #include "lent.h"
 
@@ -69,7 +69,7 @@ static void ran(size_t records, const uint8_t *numbers, size_t offset)
 /* Makes the calls of the log's records on an arena, and gives their numbers. */
 static void by_calls(uint8_t *image, uint8_t *numbers)
 {
-    static uint8_t room[256], buffer[4096];
+    static uint8_t room[256], buffer[BTT_MAX_SECTOR];
     struct btt_handle opened;
     size_t all = lent[ARENA].length;
     uint32_t pending;
@@ -111,7 +111,7 @@ static void holds_steps(uint32_t sector, uint32_t first)
 
 static void test_write(void)
 {
-    static const uint32_t shapes[][3] = {{512, 60, 4}, {512, 1, 1}, {4096, 3, 2}};
+    static const uint32_t shapes[][3] = {{512, 60, 4}, {512, 1, 1}, {520, 60, 4}, {528, 1, 1}, {4096, 3, 2}, {4104, 3, 2}};
 
     for (size_t i = 0; i < COUNT(shapes); i++) {
         fresh(shapes[i][0], shapes[i][1], shapes[i][2]);
@@ -129,24 +129,26 @@ static void test_write(void)
 /* A write that is cut after so many stores is the old sector, or the new one if its sequence word was stored. */
 static void test_cuts(void)
 {
-    static const int stores[] = {0, 1, 127, 128, 129, 131, 132, 133};
+    for (size_t i = 0; i < 8 * COUNT(pairs); i++) {
+        uint32_t size = pairs[i / 8][0];
+        int words = (int)size / 4;
+        const int stores[8] = {0, 1, words - 1, words, words + 1, words + 3, words + 4, words + 5};
 
-    for (size_t i = 0; i < COUNT(stores); i++) {
-        fresh_case();
+        fresh(size, 6, 3);
         empty_log();
         put(STEP, 2, 0, 1);
-        put(START, 2, 7, 1);
-        put(STEP, 2, 0, stores[i]);
+        put(START, 2, 5, 1);
+        put(STEP, 2, 0, stores[i % 8]);
         put(CUT, 0, 0, 1);
         put(STEP, 2, 0, 1);
         replayed(0, 0);
         CHECK(lent[ANSWERS].at[0] == 14 && lent[ANSWERS].at[count - 2] == 0 && lent[ANSWERS].at[count - 1] == 14);
-        if (stores[i] >= LAST) {
-            holds_steps(7, 2);
+        if (stores[i % 8] >= words + 4) {
+            holds_steps(5, 2);
         } else {
             CALL(0, OPENED, open_arena());
-            CALL(0, ONLY(BUFFER), read_sector(7));
-            CHECK(all_bytes(lent[BUFFER].at, SIZE, 0));
+            CALL(0, ONLY(BUFFER), read_sector(5));
+            CHECK(all_bytes(lent[BUFFER].at, size, 0));
         }
     }
 }

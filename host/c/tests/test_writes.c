@@ -1,6 +1,6 @@
 /*
- * Writes from C, store by store and whole, for both sector sizes and in both layouts: each step's one word, reads meanwhile, and a power cut
- * after every store. Case 9 and its twin and case 10 are here with the figures of docs/FORMAT.md, section 14.
+ * Writes from C, store by store and whole, for every sector size and in both layouts: each step's one word, reads meanwhile, and a power cut
+ * after every store. Case 9 and its twin and case 10 are here with the figures of docs/FORMAT.md, section 14, and with them the other sizes.
  */
 #include "lent.h"
 
@@ -17,12 +17,21 @@ static struct store store_of(uint32_t lane, uint32_t k)
     const uint32_t flog[] = {r->sector, r->old, r->block, r->sequence};
 
     if (k < words) {
-        return (struct store){handle->data + (uint64_t)r->block * handle->size + 4 * k, get32(lent[BUFFER].at + 4 * k)};
+        return (struct store){handle->data + (uint64_t)r->block * handle->internal + 4 * k, get32(lent[BUFFER].at + 4 * k)};
     }
     if (part < 4) {
         return (struct store){handle->flog + 64 * lane + layout * r->half + 4 * part, flog[part]};
     }
     return (struct store){handle->map + 4 * r->sector, 0xC0000000 + r->block};
+}
+
+/* A step that makes this store, and none but it. */
+static void step_stores(uint32_t lane, struct store s)
+{
+    CALL(0, STEPPED, step(lane));
+    CHECK(get32(arena + s.at) == s.value);
+    put32(lent[ARENA].copy + (arena - lent[ARENA].pages) + s.at, s.value);
+    CHECK(kept(&lent[ARENA], 0));
 }
 
 /* The step that makes store k changes that one word and, of the handle, the lane's record. */
@@ -33,10 +42,7 @@ static void one_step(uint32_t lane, uint32_t k)
 
     CALL(0, ONLY(OFFSET), next_store(lane));
     CHECK(get_bytes(lent[OFFSET].at, 8) == s.at);
-    CALL(0, STEPPED, step(lane));
-    CHECK(get32(arena + s.at) == s.value);
-    put32(lent[ARENA].copy + (arena - lent[ARENA].pages) + s.at, s.value);
-    CHECK(kept(&lent[ARENA], 0));
+    step_stores(lane, s);
     if (k + 1 < handle->size / 4 + 5) {
         after.made = k + 1;
     } else {
@@ -49,7 +55,7 @@ static void one_step(uint32_t lane, uint32_t k)
 /* The power is cut: a copy of the arena is opened, and must count so many mended lanes and give these bytes for the sector. */
 static void cut_gives(uint32_t sector, uint32_t count, const uint8_t *bytes)
 {
-    static uint8_t image[65536], room[256], got[4096];
+    static uint8_t image[65536], room[256], got[BTT_MAX_SECTOR];
     struct btt_handle opened;
     uint32_t pending;
 
@@ -58,7 +64,7 @@ static void cut_gives(uint32_t sector, uint32_t count, const uint8_t *bytes)
     CHECK(btt_open(image, lent[ARENA].length, room, sizeof room, layout, &opened, &pending) == 0);
     CHECK(pending == count);
     CHECK(btt_read(image, lent[ARENA].length, &opened, sector, got, handle->size) == 0);
-    CHECK(memcmp(got, bytes, handle->size) == 0);
+    CHECK(memcmp(got, bytes, handle->size) == 0 && same_rest(image, arena, handle->size, handle->blocks));
     CHECK(btt_open(image, lent[ARENA].length, room, sizeof room, layout, &opened, &pending) == 0);
     CHECK(pending == 0);
 }
@@ -72,7 +78,7 @@ static void content(uint32_t sector, uint8_t *bytes)
 /* A write by steps, with a read and a cut after every store; then the same write whole must end the same. */
 static void write_both_ways(uint32_t lane, uint32_t sector)
 {
-    static uint8_t arena_was[65536], arena_then[65536], before[4096], now[4096];
+    static uint8_t arena_was[65536], arena_then[65536], before[BTT_MAX_SECTOR], now[BTT_MAX_SECTOR];
     struct btt_handle handle_was = *handle, handle_then;
     uint32_t stores = handle->size / 4 + 5;
     const uint8_t *bytes = lent[BUFFER].at;
@@ -100,7 +106,9 @@ static void write_both_ways(uint32_t lane, uint32_t sector)
 
 static void test_both_ways(void)
 {
-    static const uint32_t shapes[][3] = {{512, 60, 4}, {512, 1, 1}, {4096, 3, 2}, {512, 20, 16}};
+    static const uint32_t shapes[][3] = {
+        {512, 60, 4}, {512, 1, 1}, {512, 20, 16}, {520, 60, 4}, {520, 1, 1}, {528, 60, 4}, {528, 20, 16}, {4096, 3, 2}, {4104, 3, 2}
+    };
 
     for (size_t i = 0; i < COUNT(shapes); i++) {
         uint32_t sectors = shapes[i][1], lanes = shapes[i][2];
@@ -116,14 +124,14 @@ static void test_both_ways(void)
 /* All lanes in flight at once, a step at a time in turn: a cut there mends just the lanes that lack only their map word. */
 static void test_in_turn(void)
 {
-    static uint8_t before[4096];
+    static uint8_t before[SIZE];
 
-    fresh(512, 20, 16);
+    fresh(SIZE, 20, 16);
     pattern(lent[BUFFER].at, lent[BUFFER].length, 200);
     for (uint32_t lane = 0; lane < 16; lane++) {
         CALL(0, ONLY(HANDLE), start(lane, 19 - lane));
         content(19 - lane, before);
-        CHECK(all_bytes(before, 512, 0));
+        CHECK(all_bytes(before, SIZE, 0));
     }
     for (uint32_t k = 0; k < LAST; k++) {
         for (uint32_t lane = 0; lane < 16; lane++) {
@@ -138,27 +146,57 @@ static void test_in_turn(void)
     cut_gives(4, 0, lent[BUFFER].at);
 }
 
-static void test_case_9(void)
+/*
+ * Lane 0 of a fresh arena writes a sector: the arena's length, the places of the write's first and last data word, its last five stores in
+ * layout 16, where the flog words go in layout 32, and how many stores there are. The first row is case 9 and its twin; all places were
+ * worked out by hand.
+ */
+static const struct worked {
+    uint32_t size, sectors, lanes, sector;
+    size_t length, first_data, last_data;
+    struct store last[5];
+    uint64_t far[4];
+    uint32_t stores;
+} worked[] = {
+    {512, 60, 4, 7, 49152, 34816, 35324, {{40976, 7}, {40980, 7}, {40984, 60}, {40988, 2}, {36892, 0xC000003C}}, {40992, 40996, 41000, 41004}, 133},
+    {520, 60, 4, 7, 53248, 38656, 39172, {{45072, 7}, {45076, 7}, {45080, 60}, {45084, 2}, {40988, 0xC000003C}}, {45088, 45092, 45096, 45100}, 135},
+    {528, 60, 4, 7, 53248, 38656, 39180, {{45072, 7}, {45076, 7}, {45080, 60}, {45084, 2}, {40988, 0xC000003C}}, {45088, 45092, 45096, 45100}, 137},
+    {4096, 3, 2, 1, 36864, 16384, 20476, {{28688, 1}, {28692, 1}, {28696, 3}, {28700, 2}, {24580, 0xC0000003}}, {28704, 28708, 28712, 28716}, 1029},
+    {4104, 3, 2, 1, 40960, 16576, 20676, {{32784, 1}, {32788, 1}, {32792, 3}, {32796, 2}, {28676, 0xC0000003}}, {32800, 32804, 32808, 32812}, 1031},
+};
+
+/* Store n, from 1, of such a write. */
+static struct store worked_store(const struct worked *w, uint32_t n)
 {
-    static const struct store case_9[] = {{40976, 7}, {40980, 7}, {40984, 60}, {40988, 2}, {36892, 0xC000003C}};
-    static const struct store twin[] = {{40992, 7}, {40996, 7}, {41000, 60}, {41004, 2}, {36892, 0xC000003C}};
-    static const uint8_t zeroes[512];
-    const struct store *last = layout == 16 ? case_9 : twin;
+    uint32_t words = w->stores - 5;
+    struct store s;
 
-    fresh_case();
-    CHECK(lent[ARENA].length == 49152);
-    pattern(lent[BUFFER].at, 512, 9);
-    CALL(0, ONLY(HANDLE), start(0, 7));
-    for (uint32_t n = 1; n <= 133; n++) {
-        struct store s = n <= 128 ? (struct store){34816 + 4 * (n - 1), get32(lent[BUFFER].at + 4 * (n - 1))} : last[n - 129];
-
-        CALL(0, STEPPED, step(0));
-        CHECK(get32(arena + s.at) == s.value);
-        put32(lent[ARENA].copy + (arena - lent[ARENA].pages) + s.at, s.value);
-        CHECK(kept(&lent[ARENA], 0));
-        cut_gives(7, n == 132, n < 132 ? zeroes : lent[BUFFER].at);
+    if (n <= words) {
+        return (struct store){w->first_data + 4 * (n - 1), get32(lent[BUFFER].at + 4 * (n - 1))};
     }
-    CHECK(handle->lane[0].busy == 0 && handle->lane[0].block == 7);
+    s = w->last[n - words - 1];
+    if (n < w->stores && layout == BTT_LAYOUT_FAR) {
+        s.at = w->far[n - words - 1];
+    }
+    return s;
+}
+
+static void test_worked(void)
+{
+    static const uint8_t zeroes[BTT_MAX_SECTOR];
+
+    for (const struct worked *w = worked; w < worked + COUNT(worked); w++) {
+        fresh(w->size, w->sectors, w->lanes);
+        CHECK(lent[ARENA].length == w->length);
+        pattern(lent[BUFFER].at, w->size, 9);
+        CHECK(worked_store(w, w->stores - 5).at == w->last_data);
+        CALL(0, ONLY(HANDLE), start(0, w->sector));
+        for (uint32_t n = 1; n <= w->stores; n++) {
+            step_stores(0, worked_store(w, n));
+            cut_gives(w->sector, n == w->stores - 1, n < w->stores - 1 ? zeroes : lent[BUFFER].at);
+        }
+        CHECK(handle->lane[0].busy == 0 && handle->lane[0].block == w->sector);
+    }
 }
 
 static void test_case_10(void)
@@ -183,7 +221,7 @@ static void test_case_10(void)
 
 int main(void)
 {
-    static const test tests[] = {test_both_ways, test_in_turn, test_case_9, test_case_10};
+    static const test tests[] = {test_both_ways, test_in_turn, test_worked, test_case_10};
 
     return run("test_writes", tests, COUNT(tests), COUNT(layouts));
 }

@@ -22,7 +22,8 @@ pub enum Answer {
     WrongLength = 1,
     /// 2: neither info block is sound.
     NoInfoBlock = 2,
-    /// 3: a figure of the info block is forbidden, flags apart.
+    /// 3: a figure of the info block is forbidden, flags apart. Of the bytes of a sector and of a block, [`SIZES`](crate::SIZES) has the
+    /// pairs that are allowed.
     ForbiddenFigure = 3,
     /// 4: flags are not 0.
     FlagsSet = 4,
@@ -109,7 +110,8 @@ impl fmt::Display for Answer {
             }
             Answer::NoInfoBlock => "this is no arena: neither its first 4,096 bytes nor its last are a sound info block",
             Answer::ForbiddenFigure => {
-                "a figure is forbidden: sectors are of 512 or 4,096 bytes, lanes are 1 to 16 and not more than sectors, and the parts lie in order"
+                "a figure is forbidden: sectors are of 512, 520, 528, 4,096 or 4,104 bytes, blocks of as many rounded up to a multiple of 64, \
+                 lanes are 1 to 16 and not more than sectors, and the parts lie in order"
             }
             Answer::FlagsSet => "the info block has flags set, of which none is known",
             Answer::ShortWorkBuffer => "the work buffer is too short: opening needs a byte for each block, that is for each sector and each lane",

@@ -78,9 +78,9 @@ impl<'a> Arena<'a> {
         }
     }
 
-    /// Makes an arena, in bytes of just the length that the figures give: both info blocks and every byte after the data blocks are
-    /// written, the data blocks are not touched, and every sector reads as zeroes. A power cut while making promises nothing. Open the
-    /// arena to get its handle.
+    /// Makes an arena, in bytes of just the length that the figures give ([`Geometry::made_length`]): both info blocks and every byte
+    /// after the data blocks are written, the data blocks are not touched, and every sector reads as zeroes. A power cut while making
+    /// promises nothing. Open the arena to get its handle.
     ///
     /// Answers [`ForbiddenFigure`](Answer::ForbiddenFigure), [`WrongLength`](Answer::WrongLength),
     /// [`WrongBuffer`](Answer::WrongBuffer) (an identifier is not 16 bytes), the first that applies.

@@ -64,11 +64,12 @@ pub struct Handle {
     pub flog: u64,
     /// The byte offset at which the copy of the info block starts.
     pub copy: u64,
-    /// The bytes of a sector: 512 or 4,096.
+    /// The bytes of a sector: 512, 520, 528, 4,096 or 4,104.
     pub size: u32,
     /// The number of sectors.
     pub sectors: u32,
-    /// The bytes of a block, which are those of a sector.
+    /// The bytes of a block, which are those of a sector rounded up to a multiple of 64. Every call answers
+    /// [`BadHandle`](crate::Answer::BadHandle) for a pair that [`SIZES`](crate::SIZES) does not have.
     pub internal: u32,
     /// The number of blocks: sectors and lanes.
     pub blocks: u32,
@@ -96,7 +97,7 @@ impl Handle {
         unsafe { mem::transmute(*self) }
     }
 
-    /// The bytes of a sector.
+    /// The bytes of a sector, and so of a sector buffer.
     pub fn sector_size(&self) -> usize {
         self.size as usize
     }

@@ -88,6 +88,13 @@
 //! often as its first answer counts lanes, and flush the map and fence after each call; [`Arena::open`] then finds nothing to mend and
 //! stores nothing.
 //!
+//! # Sizes
+//!
+//! A sector is of 512, 520, 528, 4,096 or 4,104 bytes, so that a host may keep 8 or 16 bytes of its own, such as a check, beside the data.
+//! The block that holds a sector has the size rounded up to a multiple of 64, the internal size: 512, 576, 576, 4,096 or 4,160 bytes
+//! ([`SIZES`], [`internal_size`]). Sector buffers and the number of a write's stores go by the size; the places of the blocks and the
+//! arena's length go by the internal size. What a block has beyond its sector is never stored to.
+//!
 //! # Layouts
 //!
 //! A lane keeps two halves of a pair in the flog. Most arenas have the second at byte 16 of the lane's 64 bytes, some at byte 32, and
@@ -119,7 +126,9 @@ mod view;
 pub use aligned::AlignedBytes;
 pub use answer::Answer;
 pub use arena::{Arena, Opened};
-pub use geometry::{Geometry, Identifiers, ID_SIZE, INFO_SIZE, MAX_ARENA, MAX_BLOCKS, MIN_ARENA};
+pub use geometry::{
+    internal_size, Geometry, Identifiers, ID_SIZE, INFO_SIZE, MAX_ARENA, MAX_BLOCKS, MAX_SECTOR, MIN_ARENA, SIZES,
+};
 pub use handle::{Handle, Lane, HANDLE_SIZE, LANE_SIZE, MAX_LANES};
 pub use layout::{Layout, UnknownLayout};
 pub use open_arena::{OpenArena, Store};

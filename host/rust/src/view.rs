@@ -88,8 +88,9 @@ impl<'a> ArenaRef<'a> {
         (length != 0).then(|| &self.bytes[offset..offset + length])
     }
 
-    /// Reads a sector into a buffer of a sector's length: what the last finished write stored, or zeroes where the sector was never
-    /// written or its map word has bit 31 (Zero) alone. A write in flight is not seen until its map word, its last store, is stored.
+    /// Reads a sector into a buffer of [a sector's length](Handle::sector_size): what the last finished write stored, or zeroes where
+    /// the sector was never written or its map word has bit 31 (Zero) alone. A write in flight is not seen until its map word, its last
+    /// store, is stored.
     ///
     /// Answers [`BadHandle`](Answer::BadHandle), [`NoSuchSector`](Answer::NoSuchSector), [`WrongBuffer`](Answer::WrongBuffer),
     /// [`BadMapWord`](Answer::BadMapWord) and [`Sloppy`](Answer::Sloppy) (of that sector's word), [`BadSector`](Answer::BadSector), the

@@ -1,8 +1,9 @@
-//! Rust callers of every function: the worked figures of docs/FORMAT.md, and each refusal.
+//! Rust callers of every function: the worked figures of docs/FORMAT.md and those of the other sizes, and each refusal.
 mod support;
 
 use btt::{
-    AlignedBytes, Answer, Arena, ArenaRef, Geometry, Handle, Identifiers, Lane, Layout, Misaligned, OpenArena, Opened, MAX_BLOCKS,
+    AlignedBytes, Answer, Arena, ArenaRef, Geometry, Handle, Identifiers, Lane, Layout, Misaligned, OpenArena, Opened,
+    MAX_BLOCKS, SIZES,
 };
 use plain::{put_word, seal, word};
 use support::GEOMETRY;
@@ -13,8 +14,13 @@ const FLOG: usize = 40_960;
 
 /// The fresh arena of 49,152 bytes.
 fn fresh() -> AlignedBytes {
-    let mut memory = AlignedBytes::zeroed(49_152);
-    Arena::new(&mut memory).unwrap().make(GEOMETRY, Identifiers::ZEROES).unwrap();
+    fresh_of(GEOMETRY)
+}
+
+fn fresh_of(geometry: Geometry) -> AlignedBytes {
+    let mut memory = AlignedBytes::zeroed(geometry.made_length().unwrap() as usize);
+    memory.fill(0x5A);
+    Arena::new(&mut memory).unwrap().make(geometry, Identifiers::ZEROES).unwrap();
     memory
 }
 
@@ -30,7 +36,18 @@ fn opened_in(layout: Layout, memory: &mut AlignedBytes) -> (Arena<'_>, Handle) {
 
 #[test]
 fn lengths_are_those_worked_out() {
-    for (size, sectors, lanes, length) in [(512, 60, 4, 49_152), (512, 1, 1, 20_480), (4096, 1, 1, 24_576)] {
+    for (size, sectors, lanes, length) in [
+        (512, 60, 4, 49_152),
+        (512, 1, 1, 20_480),
+        (520, 60, 4, 53_248),
+        (520, 1, 1, 20_480),
+        (520, 100, 4, 77_824),
+        (528, 60, 4, 53_248),
+        (528, 1, 1, 20_480),
+        (4096, 1, 1, 24_576),
+        (4104, 1, 1, 28_672),
+        (4104, 70, 2, 319_488),
+    ] {
         let geometry = Geometry { size, sectors, lanes };
         assert_eq!(geometry.made_length(), Some(length));
         let mut memory = AlignedBytes::zeroed(length as usize + 4096);
@@ -39,48 +56,77 @@ fn lengths_are_those_worked_out() {
         assert_eq!(make(length + 4096), Err(Answer::WrongLength));
         assert_eq!(make(length - 4096), Err(Answer::WrongLength));
     }
-    let (_, handle) = opened(&mut fresh());
-    assert_eq!((handle.data, handle.map, handle.flog, handle.copy), (4096, 36_864, 40_960, 45_056));
+    for (size, sectors, lanes, internal, starts) in [
+        (512, 60, 4, 512, [4096, 36_864, 40_960, 45_056]),
+        (520, 60, 4, 576, [4096, 40_960, 45_056, 49_152]),
+        (528, 60, 4, 576, [4096, 40_960, 45_056, 49_152]),
+        (4096, 3, 2, 4096, [4096, 24_576, 28_672, 32_768]),
+        (4104, 3, 2, 4160, [4096, 28_672, 32_768, 36_864]),
+    ] {
+        let mut memory = fresh_of(Geometry { size, sectors, lanes });
+        let (_, handle) = opened(&mut memory);
+        assert_eq!((handle.size, handle.internal, handle.blocks), (size, internal, sectors + lanes));
+        assert_eq!([handle.data, handle.map, handle.flog, handle.copy], starts);
+    }
 }
 
 #[test]
 fn the_work_buffer_for_every_arena_is_long_enough() {
-    let fits = |sectors| Geometry { size: 512, sectors, lanes: 16 }.made_length().is_some();
-    let most = (1..40_000).filter(|sectors| fits(*sectors)).max().unwrap();
-    assert_eq!(most as usize + 16, MAX_BLOCKS);
+    let most = SIZES.map(|(size, _)| Geometry::fitting(u64::MAX, size, 16).unwrap().sectors as usize + 16);
+    assert_eq!(most, [32_488, 28_899, 28_899, 4089, 4026]);
+    assert_eq!(most.into_iter().max(), Some(MAX_BLOCKS));
 }
+
+/// A write of lane 0 of a fresh arena: the places of its first data word, its first flog word in both layouts and its map word.
+struct Worked {
+    geometry: (u32, u32, u32),
+    sector: u32,
+    data: usize,
+    flog: [usize; 2],
+    map: usize,
+    stores: u32,
+}
+
+/// The first is case 9 and its twin; all places were worked out by hand.
+const WORKED: [Worked; 5] = [
+    Worked { geometry: (512, 60, 4), sector: 7, data: 34_816, flog: [40_976, 40_992], map: 36_892, stores: 133 },
+    Worked { geometry: (520, 60, 4), sector: 7, data: 38_656, flog: [45_072, 45_088], map: 40_988, stores: 135 },
+    Worked { geometry: (528, 60, 4), sector: 7, data: 38_656, flog: [45_072, 45_088], map: 40_988, stores: 137 },
+    Worked { geometry: (4096, 3, 2), sector: 1, data: 16_384, flog: [28_688, 28_704], map: 24_580, stores: 1029 },
+    Worked { geometry: (4104, 3, 2), sector: 1, data: 16_576, flog: [32_784, 32_800], map: 28_676, stores: 1031 },
+];
 
 #[test]
-fn a_write_makes_the_stores_of_case_9_and_of_its_twin() {
-    let flog = |offsets: [usize; 4]| offsets.into_iter().zip([7, 7, 60, 2]).collect::<Vec<_>>();
-    stores_of_a_write(Layout::Near, flog([40_976, 40_980, 40_984, 40_988]));
-    stores_of_a_write(Layout::Far, flog([40_992, 40_996, 41_000, 41_004]));
+fn a_write_makes_the_stores_that_are_worked_out() {
+    for (worked, i) in WORKED.iter().flat_map(|worked| [(worked, 0), (worked, 1)]) {
+        stores_of_a_write(worked, Layout::ALL[i], worked.flog[i]);
+    }
 }
 
-/// Lane 0 of the fresh arena writes sector 7, with these stores to the flog.
-fn stores_of_a_write(layout: Layout, flog: Vec<(usize, u32)>) {
-    let mut memory = fresh();
+fn stores_of_a_write(worked: &Worked, layout: Layout, flog: usize) {
+    let ((size, sectors, lanes), sector) = (worked.geometry, worked.sector);
+    let mut memory = fresh_of(Geometry { size, sectors, lanes });
     let (mut arena, mut handle) = opened_in(layout, &mut memory);
-    let buffer: Vec<u8> = (0..512).map(|i| (i * 7) as u8).collect();
-    arena.start(&mut handle, 0, 7).unwrap();
-    let mut offsets = Vec::new();
-    for number in 1..=133 {
+    let buffer: Vec<u8> = (0..size).map(|i| (i * 7) as u8).collect();
+    arena.start(&mut handle, 0, sector).unwrap();
+    let mut stores = Vec::new();
+    for number in 1..=worked.stores {
         assert_eq!(arena.lane(&handle, 0).unwrap().made, number - 1);
-        let mut seen = [1; 512];
-        arena.read(&handle, 7, &mut seen).unwrap();
-        assert_eq!(seen, [0; 512], "the old sector until the map word is stored");
+        let mut seen = vec![1; buffer.len()];
+        arena.read(&handle, sector, &mut seen).unwrap();
+        assert!(seen.iter().all(|byte| *byte == 0), "the old sector until the map word is stored");
         let before = arena.bytes().to_vec();
         let offset = arena.next_store(&handle, 0).unwrap() as usize;
         arena.step(&mut handle, 0, &buffer).unwrap();
-        let (after, outside) = (arena.bytes(), |i: &usize| !(offset..offset + 4).contains(i));
-        assert!((0..before.len()).filter(outside).all(|i| before[i] == after[i]));
-        offsets.push((offset, word(after, offset)));
+        let after = arena.bytes();
+        assert!(before[..offset] == after[..offset] && before[offset + 4..] == after[offset + 4..]);
+        stores.push((offset, word(after, offset)));
     }
-    let mut expected: Vec<(usize, u32)> = (0..128).map(|i| (34_816 + 4 * i, word(&buffer, 4 * i))).collect();
-    expected.extend(flog);
-    expected.push((36_892, 0xC000_003C));
-    assert_eq!(offsets, expected);
-    assert_eq!(arena.lane(&handle, 0), Ok(Lane { block: 7, half: 0, sequence: 3, ..Lane::default() }));
+    let mut expected: Vec<_> = (0..size as usize / 4).map(|i| (worked.data + 4 * i, word(&buffer, 4 * i))).collect();
+    expected.extend([sector, sector, sectors, 2].into_iter().enumerate().map(|(i, value)| (flog + 4 * i, value)));
+    expected.push((worked.map, 0xC000_0000 + sectors));
+    assert_eq!(stores, expected);
+    assert_eq!(arena.lane(&handle, 0), Ok(Lane { block: sector, half: 0, sequence: 3, ..Lane::default() }));
     assert_eq!(arena.next_store(&handle, 0), Err(Answer::LaneIdle));
 }
 
@@ -137,7 +183,19 @@ fn making_is_refused_in_order() {
         assert!(answer.is_ok() || memory.iter().all(|byte| *byte == 0));
         answer
     };
-    for (size, sectors, lanes) in [(0, 60, 4), (513, 60, 4), (512, 3, 4), (512, 60, 0), (512, 60, 17), (512, 0, 0)] {
+    for (size, sectors, lanes) in [
+        (0, 60, 4),
+        (513, 60, 4),
+        (576, 60, 4),
+        (4160, 60, 4),
+        (512, 3, 4),
+        (520, 3, 4),
+        (512, 60, 0),
+        (528, 60, 0),
+        (512, 60, 17),
+        (4104, 60, 17),
+        (512, 0, 0),
+    ] {
         assert_eq!(make(0, Geometry { size, sectors, lanes }, &[], &[]), Err(Answer::ForbiddenFigure));
     }
     let id = [1; 16];

@@ -36,37 +36,56 @@ fn the_most_sectors_that_fit_are_made() {
     let place = Place::new("fitting");
     for (options, size, sectors, lanes, length) in [
         ("--bytes 16M", 512, 32_484, 4, 16_777_216),
+        ("--bytes 16M --size 520", 520, 28_895, 4, 16_777_216),
         ("--bytes 16M --size 4096", 4096, 4085, 4, 16_777_216),
+        ("--bytes 16M --size=4104", 4104, 4022, 4, 16_777_216),
         ("--bytes 16M --lanes 16", 512, 32_472, 16, 16_777_216),
         ("--bytes 48K", 512, 60, 4, 49_152),
         ("--bytes 53247", 512, 60, 4, 49_152),
         ("--bytes 20K", 512, 4, 4, 20_480),
         ("--bytes 20480 --lanes 1", 512, 7, 1, 20_480),
+        ("--bytes 48K --size 520", 520, 52, 4, 49_152),
+        ("--bytes 24K --size 528", 528, 10, 4, 24_576),
         ("--bytes 24K --size 4096 --lanes 1", 4096, 1, 1, 24_576),
+        ("--bytes 28K --size 4104 --lanes 1", 4104, 1, 1, 28_672),
         ("--sectors 60", 512, 60, 4, 49_152),
+        ("--sectors 60 --size 528", 528, 60, 4, 53_248),
     ] {
         let said = place.done(&format!("make arena --force {options}"), &[]);
         let expected = format!("made arena: {sectors} sectors of {size} bytes, {lanes} lanes, {length} bytes in all\n");
         assert_eq!(String::from_utf8(said).unwrap(), expected, "{options}");
         assert!(fs::read(place.path("arena")).unwrap() == made(Geometry { size, sectors, lanes })[..]);
     }
+    assert_eq!(place.names(), ["arena"]);
+}
+
+#[test]
+fn figures_of_which_nothing_is_made_are_told() {
+    let place = Place::new("unfitting");
     for (options, said) in [
         ("--bytes 0", "refused 1: no arena of 4 lanes and sectors of 512 bytes is made for 0 bytes, but for 20480 to 16777216"),
         (
             "--bytes 40K --size 4096",
             "refused 1: no arena of 4 lanes and sectors of 4096 bytes is made for 40960 bytes, but for 49152",
         ),
+        (
+            "--bytes 20K --size 520",
+            "refused 1: no arena of 4 lanes and sectors of 520 bytes is made for 20480 bytes, but for 24576 to 16777216",
+        ),
         ("--bytes 16777217", "refused 1: no arena of 4 lanes and sectors of 512 bytes is made for 16777217 bytes"),
-        ("--bytes 16M --size 1024", "refused 3: "),
-        ("--bytes 16M --size 0", "refused 3: "),
-        ("--bytes 16M --lanes 0", "refused 3: "),
-        ("--bytes 1K --lanes 17", "refused 3: "),
+        ("--bytes 16M --size 1024", "refused 3: there are no sectors of 1024 bytes, but of 512, 520, 528, 4096, 4104\n"),
+        ("--bytes 16M --size 0", "refused 3: there are no sectors of 0 bytes, but of 512, 520, 528, 4096, 4104\n"),
+        ("--bytes 1K --size 576", "refused 3: there are no sectors of 576 bytes, but of 512, 520, 528, 4096, 4104\n"),
+        ("--sectors 60 --size 4160", "refused 3: there are no sectors of 4160 bytes, but of 512, 520, 528, 4096, 4104\n"),
+        ("--bytes 16M --lanes 0", "refused 3: a figure is forbidden: sectors are of 512, 520, 528, 4,096 or 4,104 bytes, "),
+        ("--bytes 1K --lanes 17", "refused 3: a figure is forbidden: "),
+        ("--bytes 1M --lanes 17 --size 520", "refused 3: a figure is forbidden: "),
     ] {
         let (status, out, found) = place.refused(&format!("make other {options}"), &[]);
         assert_eq!((status, out.as_str()), (1, ""), "{options}");
         assert!(found.starts_with(&format!("btt: {said}")), "{found}");
     }
-    assert_eq!(place.names(), ["arena"]);
+    assert!(place.names().is_empty());
 }
 
 #[test]
@@ -210,13 +229,19 @@ fn report(arena: &[u8], layout: u32) -> (u32, String) {
 #[test]
 fn sectors_are_read_and_written() {
     let place = Place::new("sectors");
-    for (size, sectors, layout, told) in
-        [(512, 60, 16, ""), (4096, 7, 16, "--layout=16"), (512, 60, 32, "--layout 32"), (4096, 7, 32, "--layout=32")]
-    {
+    for (size, sectors, layout, told) in [
+        (512, 60, 16, ""),
+        (512, 60, 32, "--layout 32"),
+        (520, 60, 32, "--layout 32"),
+        (528, 60, 16, ""),
+        (4096, 7, 16, "--layout=16"),
+        (4096, 7, 32, "--layout=32"),
+        (4104, 7, 16, ""),
+    ] {
         place.done(&format!("make arena --size {size} --sectors {sectors} --lanes 4 --force"), &[]);
         let mut expected = fs::read(place.path("arena")).unwrap();
         let mut chance = Chance::new(42);
-        for _ in 0..12 {
+        for _ in 0..7 {
             let sector = chance.below(sectors) as u32;
             let bytes = chance.bytes(size);
             assert!(place.done(&format!("write arena {sector} {told}"), &bytes).is_empty());
@@ -225,6 +250,11 @@ fn sectors_are_read_and_written() {
             plain::write(&mut expected, &mut handle, 0, sector, &bytes).unwrap();
             assert!(fs::read(place.path("arena")).unwrap() == expected, "the file has the stores of a write on lane 0");
         }
+        for length in [size - 1, size + 1, size.next_multiple_of(64).max(size + 1)] {
+            let (status, _, said) = place.refused(&format!("write arena 0 {told}"), &vec![1; length]);
+            assert!(status == 1 && said.starts_with("btt: refused 10: "), "{length} bytes for a sector of {size}: {said}");
+        }
+        assert!(fs::read(place.path("arena")).unwrap() == expected);
     }
 }
 
@@ -346,7 +376,8 @@ fn a_dump_tells_everything() {
 #[test]
 fn help_and_usage() {
     let place = Place::new("help");
-    assert!(String::from_utf8(place.done("--help", &[])).unwrap().contains("btt make FILE --bytes B"));
+    let help = String::from_utf8(place.done("--help", &[])).unwrap();
+    assert!(help.contains("btt make FILE --bytes B") && help.contains("the bytes of a sector: 512, 520, 528, 4096 or 4104;"));
     assert_eq!(place.done("--version", &[]), format!("btt {}\n", env!("CARGO_PKG_VERSION")).as_bytes());
     for line in [
         "",

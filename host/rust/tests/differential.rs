@@ -1,17 +1,16 @@
-//! The library against the plain program on many arenas, long and short, valid and damaged, of both layouts.
+//! The library against the plain program on many arenas, long and short, valid and damaged, of every sector size and both layouts.
 mod support;
 
 use btt::Geometry;
 use support::both::Both;
 use support::chance::Chance;
-use support::{arenas, other, pending, LAYOUTS, NO_LAYOUTS};
+use support::{arenas, other, pending, LAYOUTS, NO_LAYOUTS, NO_SIZES, SIZES};
 
 /// Opens an arena in a layout, by openings that are cut at every place too, and reads and writes it if it opens. Gives opening's answer.
 fn tried(chance: &mut Chance, arena: &[u8], layout: u32) -> u32 {
     let mut both = Both::new(arena);
     both.info_block();
-    let figures = plain::info_block(arena).map(|at| plain::figures_of(&arena[at..at + 4096], arena.len()));
-    let blocks = figures.map_or(0, |figures| figures.blocks.min(40_000) as usize);
+    let blocks = support::figures(arena).map_or(0, |figures| figures.blocks.min(40_000) as usize);
     let room = match chance.below(12) {
         0 => blocks.saturating_sub(1),
         1 => 0,
@@ -48,7 +47,7 @@ fn used(chance: &mut Chance, both: &mut Both) {
     for _ in 0..4 {
         let sector = chance.below(both.handle.sectors as usize + 1) as u32;
         let lane = chance.below(both.handle.lanes as usize + 1) as u32;
-        let length = if chance.once_in(9) { size - 1 } else { size };
+        let length = if chance.once_in(9) { chance.pick(&[size - 1, size.next_multiple_of(64)]) } else { size };
         let buffer = chance.bytes(length);
         both.read(sector, &mut buffer.clone());
         both.write(lane, sector, &buffer);
@@ -65,15 +64,18 @@ fn used(chance: &mut Chance, both: &mut Both) {
 #[test]
 fn valid_arenas_open() {
     let mut chance = Chance::new(11);
-    let mut mended = 0;
+    let (mut mended, mut sizes) = (0, [0; 5]);
     for _ in 0..3000 {
         let layout = arenas::layout(&mut chance);
         let arena = arenas::valid(&mut chance, layout);
         let number = tried(&mut chance, &arena, layout);
         assert!(number == 0 || number == 5);
         mended += pending(&arena, layout).unwrap();
+        let size = support::figures(&arena).map(|figures| figures.size);
+        sizes[SIZES.into_iter().position(|known| Some(known) == size).unwrap()] += 1;
     }
     assert!(mended > 1000, "lanes were pending: {mended}");
+    assert!(sizes.into_iter().all(|count| count > 200), "every size came: {sizes:?}");
 }
 
 #[test]
@@ -123,11 +125,12 @@ fn long_arenas_are_answered_alike() {
         let arena = vec![0; length];
         assert_eq!(tried(&mut chance, &arena, 32), if length == 16_777_216 { 2 } else { 1 });
     }
-    for geometry in [Geometry { size: 512, sectors: 2000, lanes: 16 }, Geometry { size: 4096, sectors: 500, lanes: 3 }] {
+    for (size, sectors, lanes) in [(512, 2000, 16), (520, 1000, 16), (528, 1000, 16), (4096, 500, 3), (4104, 300, 3)] {
+        let geometry = Geometry { size, sectors, lanes };
         let mut both = Both::new(&chance.bytes(geometry.made_length().unwrap() as usize));
         assert_eq!(both.make(geometry, &[1; 16], &[2; 16]), 0);
         let made = both.arena.to_vec();
-        for _ in 0..40 {
+        for _ in 0..25 {
             let (mut arena, layout) = (made.clone(), arenas::layout(&mut chance));
             arenas::damage(&mut chance, &mut arena, layout);
             tried(&mut chance, &arena, layout);
@@ -140,7 +143,7 @@ fn making_is_answered_alike() {
     let mut chance = Chance::new(15);
     let mut answers = [0; 11];
     for _ in 0..3000 {
-        let size = chance.pick(&[512, 512, 4096, 4096, 0, 1024, 513, u32::MAX]);
+        let size = if chance.once_in(3) { chance.pick(&NO_SIZES) } else { chance.pick(&SIZES) };
         let lanes = chance.pick(&[0, 1, 2, 3, 8, 15, 16, 17, u32::MAX]);
         let sectors = match chance.below(8) {
             0 => chance.word(),

@@ -5,7 +5,7 @@ use btt::{Geometry, Handle, HANDLE_SIZE, LANE_SIZE, MAX_LANES};
 use plain::{put_word, word};
 use support::both::Both;
 use support::chance::Chance;
-use support::{arenas, other, LAYOUTS, NO_LAYOUTS};
+use support::{arenas, other, LAYOUTS, NO_LAYOUTS, NO_SIZES, SIZES};
 
 /// An arena that is opened in a layout, with some writes in flight.
 fn opened(chance: &mut Chance, geometry: Geometry, layout: u32) -> Both {
@@ -23,50 +23,36 @@ fn opened(chance: &mut Chance, geometry: Geometry, layout: u32) -> Both {
 }
 
 fn forged(both: &Both, change: impl FnOnce(&mut Handle)) -> Both {
-    let mut forged = both.clone();
-    change(&mut forged.handle);
-    forged
+    let mut handle = both.handle;
+    change(&mut handle);
+    both.with(handle)
 }
 
 /// The same by the bytes of the handle.
 fn forged_bytes(both: &Both, change: impl FnOnce(&mut [u8; HANDLE_SIZE])) -> Both {
     let mut bytes = both.handle.to_bytes();
     change(&mut bytes);
-    Both { handle: Handle::from_bytes(&bytes), ..both.clone() }
+    both.with(Handle::from_bytes(&bytes))
 }
 
 /// Numbers at which a rule about a handle turns.
 fn telling(handle: &Handle, found: u32) -> Vec<u32> {
-    let figures = [handle.sectors, handle.blocks, handle.lanes, handle.size, handle.steps(), found];
+    let figures = [handle.sectors, handle.blocks, handle.lanes, handle.size, handle.internal, handle.steps(), found];
     let mut values: Vec<u32> =
         figures.into_iter().flat_map(|figure| [figure.wrapping_sub(1), figure, figure.wrapping_add(1)]).collect();
-    values.extend([
-        0,
-        1,
-        2,
-        3,
-        4,
-        16,
-        17,
-        32,
-        512,
-        4096,
-        20_480,
-        found.wrapping_add(4096),
-        found.wrapping_sub(4096),
-        1 << 31,
-        u32::MAX,
-    ]);
+    values.extend([0, 1, 2, 3, 4, 16, 17, 32, 20_480, found.wrapping_add(4096), found.wrapping_sub(4096), 1 << 31, u32::MAX]);
+    values.extend(SIZES);
     values
 }
 
 #[test]
 fn every_word_of_a_handle_is_judged() {
     let mut chance = Chance::new(1);
-    let geometries = [Geometry { size: 512, sectors: 6, lanes: 3 }, Geometry { size: 512, sectors: 16, lanes: 16 }];
-    for (geometry, layout) in geometries.into_iter().flat_map(|geometry| LAYOUTS.map(|layout| (geometry, layout))) {
+    let geometries = [(512, 6, 3, 16), (512, 16, 16, 32), (520, 6, 3, 32), (528, 16, 16, 16), (4104, 3, 2, 16)];
+    for (size, sectors, lanes, layout) in geometries {
+        let geometry = Geometry { size, sectors, lanes };
         let both = opened(&mut chance, geometry, layout);
-        let buffer = chance.bytes(512);
+        let buffer = chance.bytes(size as usize);
         for place in 0..128 {
             let found = word(&both.handle.to_bytes(), 4 * place);
             for value in telling(&both.handle, found) {
@@ -84,7 +70,7 @@ fn several_words_are_judged_together() {
     let mut answers = [0; 19];
     for round in 0..20 {
         let lanes = 1 + chance.below(16) as u32;
-        let geometry = Geometry { size: 512, sectors: lanes + chance.below(9) as u32, lanes };
+        let geometry = Geometry { size: SIZES[round % 3], sectors: lanes + chance.below(9) as u32, lanes };
         let both = opened(&mut chance, geometry, LAYOUTS[round % 2]);
         for _ in 0..300 {
             let forged = forged_bytes(&both, |bytes| {
@@ -95,13 +81,34 @@ fn several_words_are_judged_together() {
                     put_word(bytes, 4 * place, chance.pick(&choice));
                 }
             });
-            let length = if chance.once_in(8) { 511 } else { 512 };
+            let length = both.handle.sector_size() - usize::from(chance.once_in(8));
             let lane = chance.below(lanes as usize + 1) as u32;
             let sector = chance.below(geometry.sectors as usize + 1) as u32;
             let buffer = chance.bytes(length);
             forged.every_call(lane, sector, &buffer).into_iter().for_each(|number| answers[number as usize] += 1);
         }
         assert!(round < 19 || [0, 9, 10, 11, 12, 13, 14, 16].into_iter().all(|number| answers[number] > 0), "{answers:?}");
+    }
+}
+
+/// In an arena that has room for the blocks of every size, the two sizes of a handle are judged as a pair.
+#[test]
+fn sizes_are_judged_as_pairs() {
+    let mut chance = Chance::new(9);
+    for layout in LAYOUTS {
+        let mut both = Both::new(&chance.bytes(40_960));
+        assert_eq!(both.make(Geometry { size: 4104, sectors: 3, lanes: 2 }, &[1; 16], &[2; 16]), 0);
+        assert_eq!((both.open(layout, &[0; 5]), both.start(0, 1)), (0, 0));
+        let tried = [&SIZES[..], &NO_SIZES].concat();
+        for (size, internal) in tried.iter().flat_map(|size| tried.iter().map(move |internal| (*size, *internal))) {
+            let forged = forged(&both, |handle| (handle.size, handle.internal) = (size, internal));
+            let known = btt::SIZES.contains(&(size, internal));
+            for length in [size, internal, 0].map(|length| length.min(5000)) {
+                let expected = if length == size { [0, 12, 0, 12, 0, 0] } else { [10, 12, 10, 12, 0, 0] };
+                let found = forged.every_call(0, 2, &chance.bytes(length as usize));
+                assert_eq!(found, if known { expected } else { [16; 6] }, "{size} and {internal}, a buffer of {length}");
+            }
+        }
     }
 }
 
@@ -208,11 +215,11 @@ fn handles_of_other_arenas_are_answered() {
             (layout, arenas::valid(&mut chance, layout))
         });
         let handle = plain::open(&mut second.clone(), &mut [0; 128], layout).unwrap().handle;
-        let length = chance.pick(&[512, 4096]);
+        let length = chance.pick(&SIZES);
         // As it is, and with the other's length, so that the handle's figures go for this arena's bytes.
         for arena in [&first[..], &[&first[..], &second[..]].concat()[..second.len()]] {
-            let both = Both { handle, ..Both::new(arena) };
-            both.every_call(chance.below(16) as u32, chance.below(40) as u32, &vec![3; length]);
+            let both = Both::new(arena).with(handle);
+            both.every_call(chance.below(16) as u32, chance.below(40) as u32, &vec![3; length as usize]);
         }
     }
 }

@@ -1,9 +1,11 @@
-//! Random histories of calls with power cuts, in both layouts, against the plain program and against a plain row of sectors.
+//! Random histories of calls with power cuts, for every sector size and in both layouts, against the plain program and against a plain
+//! row of sectors.
 mod support;
 
+use std::collections::BTreeSet;
 use support::both::Both;
 use support::chance::Chance;
-use support::{arenas, pending, NO_LAYOUTS};
+use support::{arenas, pending, NO_LAYOUTS, SIZES};
 
 /// A write in flight: its lane, its sector, its bytes, and how many of its stores are made.
 #[derive(Clone)]
@@ -163,8 +165,10 @@ fn histories_go_as_a_plain_row() {
 #[test]
 fn a_cut_at_every_store_of_mixed_writes_tears_nothing() {
     let mut chance = Chance::new(22);
+    let mut sizes = BTreeSet::new();
     for _ in 0..24 {
         let first = History::new(&mut chance);
+        sizes.insert(first.both.handle.size);
         let handle = first.both.handle;
         let mut sectors: Vec<u32> = (0..handle.sectors).collect();
         chance.shuffle(&mut sectors);
@@ -178,7 +182,7 @@ fn a_cut_at_every_store_of_mixed_writes_tears_nothing() {
         while !history.flight.is_empty() {
             history.step(chance.below(history.flight.len()));
             cuts += 1;
-            if history.size() == 512 || cuts % 16 == 0 || chance.once_in(16) {
+            if history.size() < 4096 || cuts % 16 == 0 || chance.once_in(16) {
                 let mut cut = history.clone();
                 cut.cut(&mut chance);
                 cut.check_all();
@@ -186,6 +190,7 @@ fn a_cut_at_every_store_of_mixed_writes_tears_nothing() {
         }
         one_after_another(&mut chance, &first, writes, &history);
     }
+    assert_eq!(sizes, BTreeSet::from(SIZES), "every size came");
 }
 
 /// The same writes one after another, in a random order, end in the same arena and the same records.

@@ -16,7 +16,7 @@ fn row(arena: &[u8], layout: u32) -> Vec<Vec<u8>> {
     let mut arena = arena.to_vec();
     let handle = plain::open(&mut arena, &mut [0; MAX_BLOCKS], layout).expect("the file opens").handle;
     let read = |sector| {
-        let mut buffer = vec![0; 4096];
+        let mut buffer = vec![0; handle.sector_size()];
         plain::read(&arena, &handle, sector, &mut buffer).unwrap();
         buffer
     };
@@ -25,24 +25,25 @@ fn row(arena: &[u8], layout: u32) -> Vec<Vec<u8>> {
 
 #[test]
 fn a_killed_write_leaves_the_old_sector_or_the_new() {
-    Layout::ALL.into_iter().for_each(|layout| killed_in(layout.bytes()));
+    killed_in(Layout::Near.bytes(), 4096);
+    killed_in(Layout::Far.bytes(), 4104);
 }
 
-/// Kills writes to an arena of a layout at random moments.
-fn killed_in(layout: u32) {
+/// Kills writes to an arena of a layout and a sector size at random moments.
+fn killed_in(layout: u32, size: usize) {
     let place = Place::new(&format!("killed-{layout}"));
     let mut chance = Chance::new(51 + u64::from(layout));
-    place.done(&format!("make arena --size 4096 --sectors {SECTORS} --lanes 3"), &[]);
+    place.done(&format!("make arena --size {size} --sectors {SECTORS} --lanes 3"), &[]);
     let file = place.path("arena");
     let began = Instant::now();
-    place.done(&format!("write arena 0 --layout {layout}"), &[1; 4096]);
+    place.done(&format!("write arena 0 --layout {layout}"), &vec![1; size]);
     let whole = began.elapsed().as_micros() as usize;
     let mut expected = row(&fs::read(&file).unwrap(), layout);
     let [mut killed, mut middle, mut lanes] = [0u32; 3];
     for _ in 0..150 {
         let before = fs::read(&file).unwrap();
         let sector = chance.below(SECTORS as usize);
-        let bytes = chance.bytes(4096);
+        let bytes = chance.bytes(size);
         let mut child = place.begin(&format!("write arena {sector} --layout {layout}"), &bytes);
         sleep(Duration::from_micros(chance.below(whole + whole / 4) as u64));
         child.kill().unwrap();

@@ -1,7 +1,7 @@
 //! Replays of run logs: the library against the plain program, the words that a replayed write leaves, and the command.
 mod support;
 
-use btt::{Answer, Arena, OpenArena, Replay, MAX_BLOCKS, MAX_LOG, MAX_RECORDS};
+use btt::{Answer, Arena, Geometry, OpenArena, Replay, MAX_BLOCKS, MAX_LOG, MAX_RECORDS};
 use plain::{put_word, word};
 use std::fs;
 use support::both::Both;
@@ -9,16 +9,16 @@ use support::chance::Chance;
 use support::logs::{cut, damage, start, step, well_formed, write};
 use support::place::Place;
 use support::raw::Raw;
-use support::{arenas, made, GEOMETRY};
-
-/// The figures of an arena that opens.
-fn figures(arena: &[u8]) -> btt::Handle {
-    plain::open(&mut arena.to_vec(), &mut [0; MAX_BLOCKS], 16).unwrap().handle
-}
+use support::{arenas, made, GEOMETRY, SIZES};
 
 /// A replay on the arena of the worked cases, and the arena after it.
 fn replayed(log: &[u8]) -> (Replay, Both) {
-    let mut both = Both::new(&made(GEOMETRY));
+    replayed_on(GEOMETRY, log)
+}
+
+/// A replay on a fresh arena, and the arena after it.
+fn replayed_on(geometry: Geometry, log: &[u8]) -> (Replay, Both) {
+    let mut both = Both::new(&made(geometry));
     let replay = both.replay(log, &[9; 64], &[9; 300]).unwrap();
     (replay, both)
 }
@@ -29,7 +29,7 @@ fn logs_are_answered_alike() {
     let (mut answers, mut stops) = ([0; 21], 0);
     for _ in 0..600 {
         let arena = arenas::valid(&mut chance, 16);
-        let figures = figures(&arena);
+        let figures = support::figures(&arena).unwrap();
         let mut log = well_formed(&mut chance, &figures);
         if chance.once_in(2) {
             damage(&mut chance, &mut log);
@@ -88,18 +88,29 @@ fn a_replay_is_of_one_layout() {
 
 #[test]
 fn each_word_is_of_the_step_that_stored_it() {
-    for (steps, then, new) in
-        [(133, vec![], true), (132, cut(), true), (131, cut(), false), (132, vec![4, 0, 3], true), (0, cut(), false)]
-    {
-        let between = start(1, 60);
-        let log = [step(0), start(0, 7), step(0).repeat(steps / 2), between, step(0).repeat(steps - steps / 2), then].concat();
-        let (_, mut both) = replayed(&log);
-        let mut sector = [9; 512];
-        OpenArena::open(Arena::new(&mut both.arena).unwrap()).unwrap().read_sector(7, &mut sector).unwrap();
-        for k in 0..128 {
-            let index = 2 + k + usize::from(k >= steps / 2);
-            assert_eq!(word(&sector, 4 * k) as usize, if new { k + index } else { 0 }, "{steps} steps, word {k}");
+    for (size, all) in SIZES.into_iter().zip([133, 135, 137, 1029, 1031]) {
+        for (steps, then, new) in [
+            (all, vec![], true),
+            (all - 1, cut(), true),
+            (all - 2, cut(), false),
+            (all - 1, vec![4, 0, 3], true),
+            (0, cut(), false),
+        ] {
+            words_of_a_write(Geometry { size, sectors: 9, lanes: 2 }, steps, then, new);
         }
+    }
+}
+
+/// A write of so many steps on lane 0 to sector 7, and something after it, must leave the words of its steps, or no word.
+fn words_of_a_write(geometry: Geometry, steps: usize, then: Vec<u8>, new: bool) {
+    let between = start(1, 60);
+    let log = [step(0), start(0, 7), step(0).repeat(steps / 2), between, step(0).repeat(steps - steps / 2), then].concat();
+    let (_, mut both) = replayed_on(geometry, &log);
+    let mut sector = vec![9; geometry.size as usize];
+    OpenArena::open(Arena::new(&mut both.arena).unwrap()).unwrap().read_sector(7, &mut sector).unwrap();
+    for k in 0..sector.len() / 4 {
+        let index = 2 + k + usize::from(k >= steps / 2);
+        assert_eq!(word(&sector, 4 * k) as usize, if new { k + index } else { 0 }, "{geometry:?}, {steps} steps, word {k}");
     }
 }
 
@@ -167,7 +178,7 @@ fn the_command_tells_a_replay_and_changes_no_file() {
     let mut ends = [0; 2];
     for _ in 0..60 {
         let mut arena = arenas::valid(&mut chance, 16);
-        let mut log = well_formed(&mut chance, &figures(&arena));
+        let mut log = well_formed(&mut chance, &support::figures(&arena).unwrap());
         match chance.below(3) {
             0 => damage(&mut chance, &mut log),
             1 => arenas::damage(&mut chance, &mut arena, 16),

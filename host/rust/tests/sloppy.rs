@@ -2,7 +2,7 @@
 //! among the other answers, and nothing else is. What is padding goes by the layout.
 mod support;
 
-use btt::AlignedBytes;
+use btt::{AlignedBytes, MAX_SECTOR};
 use plain::{put_word, seal, word};
 use support::both::Both;
 use support::chance::Chance;
@@ -174,7 +174,7 @@ fn in_flight(chance: &mut Chance, buffer: &[u8]) -> Both {
 #[test]
 fn sloppy_places_of_opened_arenas_are_answered_alike() {
     let mut chance = Chance::new(72);
-    let buffer = chance.bytes(4096);
+    let buffer = chance.bytes(MAX_SECTOR);
     for _ in 0..200 {
         let mut both = in_flight(&mut chance, &buffer);
         let handle = both.handle;

@@ -87,16 +87,21 @@ pub fn flags_of(block: &[u8]) -> u32 {
     word(block, 48)
 }
 
+/// The bytes of a block for sectors of an allowed size.
+pub fn internal_of(size: u32) -> u32 {
+    size.next_multiple_of(64)
+}
+
 /// Whether an arena is made of these.
 pub fn sizes_allowed(size: u32, sectors: u32, lanes: u32) -> bool {
-    matches!(size, 512 | 4096) && (1..=MAX_LANES as u32).contains(&lanes) && sectors >= lanes
+    matches!(size, 512 | 520 | 528 | 4096 | 4104) && (1..=MAX_LANES as u32).contains(&lanes) && sectors >= lanes
 }
 
 /// Whether the figures are allowed in an arena of that length.
 pub fn figures_allowed(f: &Handle, length: usize) -> bool {
     let fits = |start: u64, bytes: u64, next: u64| start.checked_add(bytes).is_some_and(|end| end <= next);
     sizes_allowed(f.size, f.sectors, f.lanes)
-        && f.internal == f.size
+        && f.internal == internal_of(f.size)
         && u64::from(f.blocks) == u64::from(f.sectors) + u64::from(f.lanes)
         && [f.data, f.map, f.flog, f.copy].iter().all(|start| start % 4096 == 0)
         && f.data >= 4096

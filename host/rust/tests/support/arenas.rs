@@ -1,12 +1,12 @@
-//! Random arenas: made ones, valid ones with their parts anywhere, in both layouts of the flog, and damaged ones.
+//! Random arenas: made ones, valid ones with their parts anywhere, of every sector size, in both layouts of the flog, and damaged ones.
 use super::chance::Chance;
-use super::LAYOUTS;
+use super::{LAYOUTS, NO_SIZES, SIZES};
 use btt::{Geometry, Handle, Identifiers};
 use plain::{figures_of, info_block, info_block_of, made_figures, put_long, put_word, seal, word};
 
 /// Figures of a small arena, with gaps before the parts now and then.
 pub fn figures(chance: &mut Chance) -> Handle {
-    let size = if chance.once_in(4) { 4096 } else { 512 };
+    let size = if chance.once_in(4) { chance.pick(&SIZES[3..]) } else { chance.pick(&SIZES[..3]) };
     let lanes = 1 + chance.below(16) as u32;
     let sectors = lanes + chance.below(40) as u32;
     let mut figures = made_figures(Geometry { size, sectors, lanes });
@@ -114,8 +114,8 @@ fn put_info_blocks(chance: &mut Chance, arena: &mut [u8], f: &Handle) {
 
 /// Numbers at which rules turn.
 fn telling(chance: &mut Chance, f: &Handle) -> u32 {
-    let edges = [0, 1, 2, 3, 4, 5, 16, 17, 512, 4096, f.sectors, f.blocks, f.lanes, u32::MAX, 1 << 30, 1 << 31, 3 << 30];
-    let edge = chance.pick(&edges);
+    let edges = [0, 1, 2, 3, 4, 5, 16, 17, f.size, f.internal, f.sectors, f.blocks, f.lanes, u32::MAX, 1 << 30, 1 << 31, 3 << 30];
+    let edge = if chance.once_in(10) { chance.pick(&SIZES) } else { chance.pick(&edges) };
     match chance.below(4) {
         0 => chance.word(),
         1 => edge.wrapping_sub(1),
@@ -176,7 +176,15 @@ pub fn damage(chance: &mut Chance, arena: &mut Vec<u8>, layout: u32) {
     }
 }
 
-/// Changes a field of an info block, and puts the checksum right in most cases.
+/// The bytes of a sector and of a block, often a pair that there is.
+fn pair(chance: &mut Chance) -> (u32, u32) {
+    let sizes = if chance.once_in(3) { &NO_SIZES[..] } else { &SIZES };
+    let size = chance.pick(sizes);
+    let rounded = size.saturating_add(63) / 64 * 64;
+    (size, chance.pick(&[rounded, rounded, rounded, size, 512, 576, 4096, 4160]))
+}
+
+/// Changes a field of an info block, or the two sizes, and puts the checksum right in most cases.
 fn damage_info(chance: &mut Chance, block: &mut [u8], value: u32) {
     let field = chance.below(20);
     match field {
@@ -189,6 +197,11 @@ fn damage_info(chance: &mut Chance, block: &mut [u8], value: u32) {
             put_long(block, at, chance.pick(&far));
         }
         13 => block[chance.below(16)] ^= 1,
+        14 => {
+            let (size, internal) = pair(chance);
+            put_word(block, 56, size);
+            put_word(block, 64, internal);
+        }
         _ => put_word(block, 52, chance.pick(&[0, 1, 2, 3, 0x1_0002, 0x2_0000])),
     }
     if !chance.once_in(5) {

@@ -1,26 +1,34 @@
 //! The library and the plain program side by side: each call is made on both, and everything that it gives or leaves is compared.
-use super::number;
 use super::raw::{self, Raw};
+use super::{figures, number};
 use btt::{AlignedBytes, Answer, Arena, ArenaRef, Geometry, Handle, Identifiers, Layout, Opened, Replay, MAX_BLOCKS};
 use std::fmt::Debug;
+use std::rc::Rc;
 
-/// An arena and a handle in the library's hands, and the same arena in the plain program's.
+/// An arena and a handle in the library's hands, the same arena in the plain program's, and its bytes as the test last put them there.
 #[derive(Clone)]
 pub struct Both {
     pub arena: AlignedBytes,
     pub plain: Vec<u8>,
     pub handle: Handle,
+    put: Rc<[u8]>,
 }
 
 impl Both {
     pub fn new(arena: &[u8]) -> Both {
-        Both { arena: arena.into(), plain: arena.to_vec(), handle: Handle::default() }
+        Both { arena: arena.into(), plain: arena.to_vec(), handle: Handle::default(), put: arena.into() }
+    }
+
+    /// The same arena with another handle, by which the blocks may be elsewhere.
+    pub fn with(&self, handle: Handle) -> Both {
+        Both { handle, ..Both::new(&self.arena) }
     }
 
     /// Changes both arenas alike.
     pub fn change<T>(&mut self, change: impl FnOnce(&mut [u8]) -> T) -> T {
         let changed = change(&mut self.arena);
         self.plain.copy_from_slice(&self.arena);
+        self.put = self.arena[..].into();
         changed
     }
 
@@ -40,19 +48,41 @@ impl Both {
         number(&found)
     }
 
-    /// The same for a call that may change the handle; the library's is kept.
+    /// Looks at the rest of each block, its bytes after the sector's, in an arena of these figures: no call changes it.
+    #[track_caller]
+    fn rest_is_kept(&self, call: &str, figures: &Handle) {
+        let (start, size, internal) = (figures.data as usize, figures.sector_size(), figures.internal as usize);
+        let data = start..start + figures.blocks as usize * internal;
+        let (now, put) = (self.arena[data.clone()].chunks_exact(internal), self.put[data].chunks_exact(internal));
+        assert!(now.zip(put).all(|(now, put)| now[size..] == put[size..]), "{call} leaves the rest of each block");
+    }
+
+    /// The number of a call that makes or opens the arena. If it was accepted, the info block says where the blocks are.
+    #[track_caller]
+    fn opened(&self, call: &str, number: u32) -> u32 {
+        if number == 0 {
+            self.rest_is_kept(call, &figures(&self.plain).unwrap());
+        }
+        number
+    }
+
+    /// Compares what a call gave and left that may change the handle, of which the library's is kept.
     #[track_caller]
     fn same_handle(&mut self, call: &str, found: (Result<(), Answer>, Handle), expected: (Result<(), Answer>, Handle)) -> u32 {
         assert!(found.1 == expected.1, "{call} leaves the handle");
         self.handle = found.1;
-        self.same(call, found.0, expected.0)
+        let number = self.same(call, found.0, expected.0);
+        if number == 0 {
+            self.rest_is_kept(call, &self.handle);
+        }
+        number
     }
 
     #[track_caller]
     pub fn make(&mut self, geometry: Geometry, own: &[u8], parent: &[u8]) -> u32 {
         let found = self.lent().make(geometry, Identifiers { own, parent });
         let expected = plain::make(&mut self.plain, geometry, Identifiers { own, parent });
-        self.same("make", found, expected)
+        self.opened("make", self.same("make", found, expected))
     }
 
     #[track_caller]
@@ -76,7 +106,7 @@ impl Both {
             assert_eq!(handle.layout, layout, "the handle carries the layout");
             self.handle = handle;
         }
-        self.same("open", found, expected)
+        self.opened("open", self.same("open", found, expected))
     }
 
     /// Opens the arena again, in the layout of its handle.
@@ -94,7 +124,7 @@ impl Both {
         };
         let expected = plain::cut_open(&mut self.plain, &mut plain_work, layout, k);
         assert_eq!(work, plain_work, "cut_open leaves the work buffer");
-        self.same("cut_open", found, expected)
+        self.opened("cut_open", self.same("cut_open", found, expected))
     }
 
     #[track_caller]
@@ -152,7 +182,7 @@ impl Both {
         assert!(raw == Raw::expected(&expected, lent, short, answers), "btt_replay gives and leaves");
         let found = self.lent().replay(log);
         let expected = plain::replay(&mut self.plain, &mut [0; MAX_BLOCKS], log);
-        self.same("replay", found.clone(), expected);
+        self.opened("replay", self.same("replay", found.clone(), expected));
         found
     }
 

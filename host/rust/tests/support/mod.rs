@@ -8,11 +8,15 @@ pub mod logs;
 pub mod place;
 pub mod raw;
 
-use btt::{AlignedBytes, Answer, Geometry, Identifiers, MAX_BLOCKS};
+use btt::{AlignedBytes, Answer, Geometry, Handle, Identifiers, INFO_SIZE, MAX_BLOCKS};
 
 /// The figures of the worked cases, and the length of their arena.
 pub const GEOMETRY: Geometry = Geometry { size: 512, sectors: 60, lanes: 4 };
 pub const LENGTH: usize = 49_152;
+
+/// The bytes of a sector, and numbers that are none or are those of a block.
+pub const SIZES: [u32; 5] = [512, 520, 528, 4096, 4104];
+pub const NO_SIZES: [u32; 16] = [0, 1, 64, 511, 513, 519, 521, 532, 576, 640, 1024, 4095, 4100, 4160, 0x1_0208, u32::MAX];
 
 /// The layouts, and numbers that are none.
 pub const LAYOUTS: [u32; 2] = [16, 32];
@@ -33,6 +37,11 @@ pub fn made(geometry: Geometry) -> AlignedBytes {
     let mut arena = AlignedBytes::zeroed(plain::made_figures(geometry).length as usize);
     plain::make(&mut arena, geometry, Identifiers::ZEROES).unwrap();
     arena
+}
+
+/// The figures of the info block that counts.
+pub fn figures(arena: &[u8]) -> Option<Handle> {
+    plain::info_block(arena).map(|at| plain::figures_of(&arena[at..at + INFO_SIZE], arena.len()))
 }
 
 /// How many lanes of a valid arena are pending, by the plain program; the arena is not changed.

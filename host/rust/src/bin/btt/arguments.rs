@@ -10,7 +10,7 @@ btt: sectors that a power cut cannot tear, in a file that holds one arena of a b
   btt make FILE --bytes B      makes an arena with the most sectors that fit into B bytes, such as 49152, 64K or 16M,
                                which is the most, and says what it made
   btt make FILE --sectors E    makes an arena of just E sectors
-      --size S                 the bytes of a sector, 512 or 4096; 512 if not given
+      --size S                 the bytes of a sector: 512, 520, 528, 4096 or 4104; 512 if not given
       --lanes N                how many writes can be in flight at once, 1 to 16 and at most the sectors; 4 if not given
       --id HEX, --parent HEX   identifiers of 32 hexadecimal digits; zeroes if not given
       --force                  replaces a file that is there, if it is a regular one: no symbolic link, no device
@@ -283,8 +283,8 @@ mod tests {
     #[test]
     fn makings_are_understood() {
         let own: Vec<u8> = (0..16).map(|i| i * 17).collect();
-        let told = make("make a --size 4096 --sectors=60 --lanes 2 --id 00112233-4455-6677-8899-aabbccddeeFF --force");
-        assert_eq!(told, Make { size: 4096, lanes: 2, room: Room::Sectors(60), own, parent: vec![0; 16], force: true });
+        let told = make("make a --size 4104 --sectors=60 --lanes 2 --id 00112233-4455-6677-8899-aabbccddeeFF --force");
+        assert_eq!(told, Make { size: 4104, lanes: 2, room: Room::Sectors(60), own, parent: vec![0; 16], force: true });
         let zeroes = || vec![0; 16];
         for (text, bytes) in
             [("49152", 49_152), ("48K", 49_152), ("16M", 16_777_216), ("0", 0), ("4294967295M", 0xFFFF_FFFF << 20)]

@@ -10,16 +10,13 @@ mod storing;
 mod text;
 
 use arguments::{Arguments, Command};
-use btt::{AlignedBytes, Arena, Layout, OpenArena};
+use btt::{AlignedBytes, Arena, Layout, OpenArena, MAX_SECTOR};
 use output::print;
 use problem::Problem;
 use std::env;
 use std::ffi::OsStr;
 use std::io::{self, Read, Write};
 use std::process::ExitCode;
-
-/// The bytes of the longest sector.
-const LONGEST_SECTOR: u64 = 4096;
 
 fn main() -> ExitCode {
     let done = arguments::parse(env::args_os().skip(1)).and_then(run);
@@ -85,7 +82,8 @@ fn read(file: &OsStr, layout: Layout, sector: u32) -> Result<(), Problem> {
 fn write(file: &OsStr, layout: Layout, sector: u32) -> Result<(), Problem> {
     let file = file::Opened::to_write(file)?;
     let mut buffer = Vec::new();
-    let input = io::stdin().take(LONGEST_SECTOR + 1).read_to_end(&mut buffer);
+    // A byte more than the longest sector has is enough for the library to refuse it.
+    let input = io::stdin().take(MAX_SECTOR as u64 + 1).read_to_end(&mut buffer);
     input.map_err(|error| Problem::File(format!("standard input: {error}")))?;
     let (mut bytes, mut medium) = file.locked()?;
     layouts::must_open(&mut bytes, layout)?;

@@ -3,7 +3,7 @@ use crate::arguments::{Make, Room};
 use crate::file::trouble;
 use crate::problem::Problem;
 use crate::{lent, output};
-use btt::{AlignedBytes, Geometry, Identifiers, MAX_ARENA};
+use btt::{internal_size, AlignedBytes, Answer, Geometry, Identifiers, MAX_ARENA};
 use std::ffi::OsStr;
 use std::fs::{self, File, OpenOptions};
 use std::io::{self, ErrorKind, Write};
@@ -16,7 +16,8 @@ pub fn make(name: &OsStr, asked: &Make) -> Result<(), Problem> {
     // Where no arena is made of the figures, the library says why: it is given no bytes.
     let length = geometry.made_length().unwrap_or(0);
     let mut bytes = AlignedBytes::zeroed(length as usize);
-    lent(&mut bytes).make(geometry, Identifiers { own: &asked.own, parent: &asked.parent })?;
+    let done = lent(&mut bytes).make(geometry, Identifiers { own: &asked.own, parent: &asked.parent });
+    done.map_err(|answer| refused(geometry, answer))?;
     let (Geometry { size, sectors, lanes }, shown) = (geometry, name.to_string_lossy());
     if let Placed::Unsynced(error) = placed(name, &bytes, asked.force, sync_folder)? {
         // The file is made all the same; where standard error is closed there is no one left to tell.
@@ -24,6 +25,14 @@ pub fn make(name: &OsStr, asked: &Make) -> Result<(), Problem> {
     }
     let said = format!("made {shown}: {sectors} sectors of {size} bytes, {lanes} lanes, {length} bytes in all\n");
     output::print(said.as_bytes()).map_err(|problem| Problem::File(format!("{shown} is made, but {problem}")))
+}
+
+/// What is to be told of figures of which the library makes no arena: a size that no sector has is named.
+fn refused(geometry: Geometry, answer: Answer) -> Problem {
+    match (answer, internal_size(geometry.size)) {
+        (Answer::ForbiddenFigure, None) => Problem::Size(geometry.size),
+        _ => Problem::Refused(answer),
+    }
 }
 
 /// The figures that are asked for.

@@ -1,5 +1,5 @@
 //! What can go wrong, and the exit status that tells it.
-use btt::{Answer, Layout};
+use btt::{Answer, Layout, SIZES};
 use std::fmt;
 use std::process::ExitCode;
 
@@ -10,6 +10,8 @@ pub enum Problem {
     Refused(Answer),
     /// The library refused to open an arena that opens in this other layout.
     OtherLayout(Answer, Layout),
+    /// The library refused to make an arena, for it has no sectors of so many bytes.
+    Size(u32),
     /// No arena is made for so many bytes: the library would refuse every length with 1.
     Room(String),
     /// The command line is not understood.
@@ -21,7 +23,7 @@ pub enum Problem {
 impl Problem {
     pub fn exit_code(&self) -> ExitCode {
         ExitCode::from(match self {
-            Problem::Refused(_) | Problem::OtherLayout(..) | Problem::Room(_) => 1,
+            Problem::Refused(_) | Problem::OtherLayout(..) | Problem::Size(_) | Problem::Room(_) => 1,
             Problem::Usage(_) => 2,
             Problem::File(_) => 3,
         })
@@ -40,6 +42,10 @@ impl fmt::Display for Problem {
             Problem::Refused(answer) => write!(f, "refused {}: {answer}", answer.number()),
             Problem::OtherLayout(answer, layout) => {
                 write!(f, "refused {}: {answer}; it opens with --layout {}", answer.number(), layout.bytes())
+            }
+            Problem::Size(size) => {
+                let sizes = SIZES.map(|pair| pair.0.to_string()).join(", ");
+                write!(f, "refused {}: there are no sectors of {size} bytes, but of {sizes}", Answer::ForbiddenFigure.number())
             }
             Problem::Room(message) => write!(f, "refused {}: {message}", Answer::WrongLength.number()),
             Problem::Usage(message) => write!(f, "{message}\nbtt --help tells how it is used"),

@@ -30,29 +30,31 @@ fn cut(bytes: &AlignedBytes, left: usize) -> Cut {
     Cut { bytes: bytes.clone(), left, told: Vec::new() }
 }
 
-fn made() -> AlignedBytes {
-    let geometry = Geometry { size: 512, sectors: 60, lanes: 4 };
+/// A fresh arena of 60 sectors of so many bytes.
+fn made(size: usize) -> AlignedBytes {
+    let geometry = Geometry { size: size as u32, sectors: 60, lanes: 4 };
     let mut bytes = AlignedBytes::zeroed(geometry.made_length().unwrap() as usize);
     lent(&mut bytes).make(geometry, Identifiers::ZEROES).unwrap();
     bytes
 }
 
-fn sector(bytes: &AlignedBytes, layout: Layout, sector: u32) -> [u8; 512] {
+fn sector(bytes: &AlignedBytes, layout: Layout, sector: u32) -> Vec<u8> {
     let mut bytes = bytes.clone();
-    let mut buffer = [0; 512];
-    OpenArena::open_in(layout, lent(&mut bytes)).unwrap().read_sector(sector, &mut buffer).unwrap();
+    let opened = OpenArena::open_in(layout, lent(&mut bytes)).unwrap();
+    let mut buffer = vec![0; opened.sector_size()];
+    opened.read_sector(sector, &mut buffer).unwrap();
     buffer
 }
 
 /// An arena with lanes 1 and 3 pending, to sectors 5 and 6.
-fn pending(layout: Layout) -> AlignedBytes {
-    let mut bytes = made();
+fn pending(layout: Layout, size: usize) -> AlignedBytes {
+    let mut bytes = made(size);
     let mut arena = lent(&mut bytes);
     let mut handle = arena.open_in(layout, &mut [0; 64]).unwrap().handle;
     for (lane, number) in [(1, 5), (3, 6)] {
         arena.start(&mut handle, lane, number).unwrap();
-        for _ in 0..132 {
-            arena.step(&mut handle, lane, &[number as u8; 512]).unwrap();
+        for _ in 1..handle.steps() {
+            arena.step(&mut handle, lane, &vec![number as u8; size]).unwrap();
         }
     }
     bytes
@@ -60,32 +62,42 @@ fn pending(layout: Layout) -> AlignedBytes {
 
 #[test]
 fn a_write_cut_anywhere_is_old_or_new() {
-    for (layout, start) in Layout::ALL.into_iter().flat_map(|layout| [(layout, made()), (layout, pending(layout))]) {
-        let before = sector(&start, layout, 5);
-        let all = 133 + if start == made() { 0 } else { 2 };
-        for left in 0..=all {
-            let mut medium = cut(&start, left);
-            let done = write(&mut start.clone(), &mut medium, layout, 5, &[9; 512]);
-            assert_eq!(done.is_ok(), left == all);
-            let expected = if left + 1 >= all { [9; 512] } else { before };
-            assert_eq!(sector(&medium.bytes, layout, 5), expected, "{left} stores");
-            assert_eq!(sector(&medium.bytes, layout, 6), sector(&start, layout, 6));
-            let mut memory = start.clone();
-            if done.is_ok() {
-                write(&mut memory, &mut cut(&start, all), layout, 5, &[9; 512]).unwrap();
-                assert!(memory == medium.bytes, "memory and medium agree");
-            }
+    for (layout, size) in [(Layout::Near, 512), (Layout::Far, 512), (Layout::Near, 520), (Layout::Far, 528)] {
+        cut_anywhere(layout, &made(size), &vec![9; size], size / 4 + 5);
+        cut_anywhere(layout, &pending(layout, size), &vec![9; size], size / 4 + 7);
+    }
+}
+
+/// Cuts a write of these bytes to sector 5 after each of so many stores.
+fn cut_anywhere(layout: Layout, start: &AlignedBytes, bytes: &[u8], all: usize) {
+    let before = sector(start, layout, 5);
+    for left in 0..=all {
+        let mut medium = cut(start, left);
+        let done = write(&mut start.clone(), &mut medium, layout, 5, bytes);
+        assert_eq!(done.is_ok(), left == all);
+        let expected = if left + 1 >= all { bytes } else { &before[..] };
+        assert_eq!(sector(&medium.bytes, layout, 5), expected, "{left} stores");
+        assert_eq!(sector(&medium.bytes, layout, 6), sector(start, layout, 6));
+        let mut memory = start.clone();
+        if done.is_ok() {
+            write(&mut memory, &mut cut(start, all), layout, 5, bytes).unwrap();
+            assert!(memory == medium.bytes, "memory and medium agree");
         }
     }
 }
 
 #[test]
 fn the_medium_is_synchronised_around_the_sequence_word() {
-    for (layout, half) in [(Layout::Near, 40_976), (Layout::Far, 40_992)] {
-        let mut medium = cut(&made(), 133);
-        write(&mut made(), &mut medium, layout, 7, &[9; 512]).unwrap();
-        let mut expected: Vec<Option<u64>> = (0..128).map(|word| Some(34_816 + 4 * word)).collect();
-        expected.extend([Some(half), Some(half + 4), Some(half + 8), None, Some(half + 12), None, Some(36_892), None]);
+    for (size, layout, data, half, map) in [
+        (512, Layout::Near, 34_816, 40_976, 36_892),
+        (512, Layout::Far, 34_816, 40_992, 36_892),
+        (520, Layout::Near, 38_656, 45_072, 40_988),
+        (4104, Layout::Far, 253_696, 274_464, 270_364),
+    ] {
+        let mut medium = cut(&made(size), size / 4 + 5);
+        write(&mut made(size), &mut medium, layout, 7, &vec![9; size]).unwrap();
+        let mut expected: Vec<Option<u64>> = (0..size as u64 / 4).map(|word| Some(data + 4 * word)).collect();
+        expected.extend([Some(half), Some(half + 4), Some(half + 8), None, Some(half + 12), None, Some(map), None]);
         assert_eq!(medium.told, expected);
     }
 }
@@ -93,8 +105,8 @@ fn the_medium_is_synchronised_around_the_sequence_word() {
 #[test]
 fn mending_is_done_in_order_and_first() {
     for layout in Layout::ALL {
-        let mut medium = cut(&pending(layout), 135);
-        write(&mut pending(layout), &mut medium, layout, 7, &[9; 512]).unwrap();
+        let mut medium = cut(&pending(layout, 512), 135);
+        write(&mut pending(layout, 512), &mut medium, layout, 7, &[9; 512]).unwrap();
         assert_eq!(medium.told[..4], [Some(36_864 + 4 * 5), Some(36_864 + 4 * 6), None, Some(4096 + 60 * 512)]);
         assert_eq!(sector(&medium.bytes, layout, 5), [5; 512]);
         assert_eq!(sector(&medium.bytes, layout, 6), [6; 512]);
@@ -107,7 +119,7 @@ fn a_refusal_stores_nothing() {
     for (number, length, answer) in
         [(60, 512, Answer::NoSuchSector), (59, 511, Answer::WrongBuffer), (0, 513, Answer::WrongBuffer)]
     {
-        let found = pending(Layout::Near);
+        let found = pending(Layout::Near, 512);
         let mut medium = cut(&found, 1000);
         let refused = write(&mut found.clone(), &mut medium, Layout::Near, number, &vec![0; length]);
         assert!(matches!(refused, Err(Problem::Refused(found)) if found == answer));
@@ -121,7 +133,7 @@ fn a_refusal_stores_nothing() {
         (Layout::Near, Layout::Far, 4096),
         (Layout::Far, Layout::Near, 4096),
     ] {
-        let mut sloppy = pending(layout);
+        let mut sloppy = pending(layout, 512);
         sloppy[at] = 1;
         let mut medium = cut(&sloppy, 1000);
         let refused = write(&mut sloppy, &mut medium, told, 7, &[0; 512]);
