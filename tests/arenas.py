@@ -25,10 +25,22 @@ MAP, FLOG, COPY = FIGURES.map, FIGURES.flog, FIGURES.copy
 LOOSE = model.Figures(512, 10, 512, 12, 2, 8192, 20480, 28672, 36864)
 
 
-def with_blocks(arena, **changes):
-    """Both info blocks anew, with some figures or header fields changed."""
+def sectors_of(size, sectors=52, lanes=4):
+    """A made arena with anything in its blocks, behind the sectors too; with 52 sectors of 520 or 528 bytes its parts start as those of fresh."""
+    arena = bytearray(b"\xA5" * (model.made_figures(size, sectors, lanes).copy + 4096))
+    assert model.make(arena, size, sectors, lanes, bytes(range(16)), bytes(range(16, 32))) == 0
+    return arena
+
+
+def roomy(size, internal, **header):
+    """Three sectors and two lanes with room for blocks of 4,160 bytes, so that only the pair of sizes can be forbidden."""
+    return with_blocks(sectors_of(4104, 3, 2), model.made_figures(4104, 3, 2), size=size, internal=internal, **header)
+
+
+def with_blocks(arena, figures=FIGURES, **changes):
+    """Both info blocks anew, with some of these figures or header fields changed."""
     header = {k: changes.pop(k) for k in ("flags", "version", "info_size", "next_arena") if k in changes}
-    block = model.info_block(model.Figures(**{**FIGURES.__dict__, **changes}), bytes(16), bytes(16), **header)
+    block = model.info_block(model.Figures(**{**figures.__dict__, **changes}), bytes(16), bytes(16), **header)
     arena[:4096] = arena[-4096:] = block
     return arena
 
@@ -88,12 +100,18 @@ ARENAS = {
     "smallest": lambda: model.made(512, 1, 1),
     "large-sectors": lambda: model.made(4096, 1, 1),
     "widest": lambda: model.made(512, 80, 16),
+    "sectors-of-520": lambda: sectors_of(520),
+    "sectors-of-528": lambda: sectors_of(528),
+    "sectors-of-4104": lambda: sectors_of(4104, 3, 2),
+    "loose-528": lambda: roomy(528, 576),
     "loose-layout": loose,
     "all-map-states": all_states,
     "pending": lambda: half(fresh(), 0, 1, 7, 7, 60, 2),
     "pending-bad-sector": lambda: mapped(half(fresh(), 0, 1, 7, 7, 60, 2), 7, 0x40000007),
+    "pending-520": lambda: half(sectors_of(520), 0, 1, 7, 7, 52, 2),
     "two-pending": lambda: half(half(fresh(), 0, 1, 7, 7, 60, 2), 3, 1, 2, 2, 63, 2),
     "finished": lambda: mapped(half(fresh(), 0, 1, 7, 7, 60, 2), 7, 0xC000003C),
+    "finished-528": lambda: mapped(half(sectors_of(528), 0, 1, 7, 7, 52, 2), 7, 0xC0000034),
     "one-sector-twice": lambda: mapped(half(half(fresh(), 0, 1, 7, 7, 60, 2), 1, 1, 7, 60, 61, 2), 7, 0xC000003D),
     "wrapped-sequence": lambda: half(half(fresh(), 0, 0, 0, 60, 60, 3), 0, 1, 7, 60, 60, 1),
     "copy-counts": lambda: damaged(fresh(), 20),
@@ -106,6 +124,14 @@ ARENAS = {
     "refused-1-longer-arena": lambda: model.made(512, 90, 16),
     "refused-2": lambda: damaged(fresh(), 20, COPY + 20),
     "refused-3-size": lambda: with_blocks(fresh(), size=520),
+    "refused-3-size-576": lambda: roomy(576, 576),
+    "refused-3-size-4160": lambda: roomy(4160, 4160),
+    "refused-3-512-in-576": lambda: roomy(512, 576),
+    "refused-3-520-in-520": lambda: roomy(520, 520),
+    "refused-3-520-in-4160": lambda: roomy(520, 4160),
+    "refused-3-4096-in-4160": lambda: roomy(4096, 4160),
+    "refused-3-4104-in-4104": lambda: roomy(4104, 4104),
+    "refused-3-end-of-data-520": lambda: with_blocks(sectors_of(520, 13, 2), model.made_figures(520, 13, 2), map=12288),
     "refused-3-version": lambda: with_blocks(fresh(), version=(1, 1)),
     "refused-3-not-passed-over": lambda: with_blocks(fresh(), lanes=17)[:-4096] + fresh()[-4096:],
     "refused-3-before-4": lambda: with_blocks(fresh(), sectors=61, flags=1),

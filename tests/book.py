@@ -2,7 +2,11 @@
 
 Nothing here uses the model of the calls, so a mistake that the model and the library share is found too.
 """
+import operator
 import struct
+
+# The bytes of a block by those of a sector, each pair told and not rounded.
+BLOCK_BYTES = {512: 512, 520: 576, 528: 576, 4096: 4096, 4104: 4160}
 
 
 class Write:
@@ -23,8 +27,20 @@ def reading(arena, f, sector):
         return 15, None
     if not error:
         return 0, bytes(f.size)
-    place = f.data + f.size * (word & 0x3FFFFFFF)
+    place = block_at(f, word & 0x3FFFFFFF)
     return 0, bytes(arena[place : place + f.size])
+
+
+def block_at(f, block):
+    return f.data + BLOCK_BYTES[f.size] * block
+
+
+def rests(f, length):
+    """Takes out of an arena of that length the bytes of each block behind those of a sector, which no call may change."""
+    block = BLOCK_BYTES.get(f.size, f.size)
+    ends = range(f.data + block, min(f.data + block * f.blocks, length) + 1, block) if block > f.size else ()
+    places = [slice(end - block + f.size, end) for end in ends]
+    return operator.itemgetter(*places) if places else lambda arena: ()
 
 
 def nothing_sloppy(arena, f, layout):
@@ -137,7 +153,7 @@ class Book:
         """All the stores of a write, worked out from its bytes and the first arena."""
         f = self.f
         free, half, sequence = self.next[write.lane]
-        block, pair = f.data + f.size * free, f.flog + 64 * write.lane + (self.layout if half else 0)
+        block, pair = block_at(f, free), f.flog + 64 * write.lane + (self.layout if half else 0)
         stores = [(block + 4 * k, word) for k, (word,) in enumerate(struct.iter_unpack("<I", write.contents))]
         stores += zip(range(pair, pair + 16, 4), (write.sector, self.old_block(write.sector), free, sequence))
         return stores + [(f.map + 4 * write.sector, 0xC0000000 | free)]

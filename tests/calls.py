@@ -139,7 +139,7 @@ def read(arena, handle, sector, buffer):
     if number == 0:
         f = handle.figures
         word = map_word(arena, f, sector)
-        place = f.data + f.size * model.block_of(sector, word)
+        place = f.data + f.internal * model.block_of(sector, word)
         buffer[:] = arena[place : place + f.size] if word & DATA_WORD == DATA_WORD else bytes(f.size)
     return number
 
@@ -162,7 +162,7 @@ def store(f, layout, lane, record, buffer):
     """The (offset, value) of the one store that the next step of a write in flight makes."""
     k, words = record.made, f.size // 4
     if k < words:
-        return f.data + f.size * record.block + 4 * k, int.from_bytes(buffer[4 * k : 4 * k + 4], "little")
+        return f.data + f.internal * record.block + 4 * k, int.from_bytes(buffer[4 * k : 4 * k + 4], "little")
     if k < words + 4:
         part = k - words
         return model.half_start(f, layout, lane, record.half) + 4 * part, (record.sector, record.old, record.block, record.sequence)[part]

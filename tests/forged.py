@@ -12,7 +12,7 @@ CALLS = ("read", "start", "step", "step", "write", "lane_record", "next_store")
 def near(rng, value, top):
     """A number near a figure, or one of those that sums go wrong with."""
     steps = (value + 1, value - 1, value + 4096, value - 4096, value + 4, value * 8, value // 8, 2 * value)
-    return rng.choice(steps + (0, 1, 17, 512, 4096, top - 1, top - 4096, top // 2)) % top
+    return rng.choice(steps + (0, 1, 17, 512, 520, 576, 4096, 4160, top - 1, top - 4096, top // 2)) % top
 
 
 def one_size(rng, handle, f):
@@ -27,8 +27,8 @@ def one_start(rng, handle, f):
 
 def odd_start(rng, handle, f):
     """A start that is no multiple of 4,096 but keeps every other rule, where there is room for it."""
-    name, before = rng.choice((("data", 4096), ("map", f.data + f.blocks * f.size), ("flog", f.map + 4 * f.sectors)))
-    end = {"data": f.map - f.blocks * f.size, "map": f.flog - 4 * f.sectors, "flog": f.copy - 64 * f.lanes}[name]
+    name, before = rng.choice((("data", 4096), ("map", f.data + f.blocks * f.internal), ("flog", f.map + 4 * f.sectors)))
+    end = {"data": f.map - f.blocks * f.internal, "map": f.flog - 4 * f.sectors, "flog": f.copy - 64 * f.lanes}[name]
     setattr(f, name, max(before, end - rng.choice((0, 4, 1, 512))))
 
 
@@ -87,18 +87,20 @@ def too_few_sectors(rng, handle, f):
 
 
 def other_size(rng, handle, f):
-    """Another sector size, allowed or not, with sizes that match it and few enough sectors to fit."""
-    f.size = f.internal = rng.choice((512, 4096, 4096, 256, 520, 1024, 8192, 0))
-    if rng.random() < 0.7:
-        f.sectors = max(f.lanes, min(f.sectors, (f.map - f.data) // max(f.size, 1) - f.lanes))
+    """Another sector size and internal size, a pair that is allowed or not, most often with few enough sectors to fit and records in range."""
+    f.size, f.internal = random_arenas.a_pair(rng)
+    if rng.random() < 0.8:
+        f.sectors = max(f.lanes, min(f.sectors, (f.map - f.data) // max(f.internal, 1) - f.lanes), 1)
         f.blocks = f.sectors + f.lanes
+        ranges = {"block": f.blocks, "sector": f.sectors, "old": f.blocks, "made": f.size // 4 + 5}
+        handle.records = [record._replace(**{name: getattr(record, name) % end for name, end in ranges.items()}) for record in handle.records]
 
 
 def overlapping(rng, handle, f):
     """A part that ends just past the next start."""
     which = rng.choice(("data", "map", "flog"))
     if which == "data":
-        f.data = f.map - f.blocks * f.size // 4096 * 4096
+        f.data = f.map - f.blocks * f.internal // 4096 * 4096
     elif which == "map":
         f.flog = f.map
     else:
@@ -108,7 +110,7 @@ def overlapping(rng, handle, f):
 def wrapping(rng, handle, f):
     """Starts whose sums would wrap in 64 bits to something allowed."""
     if rng.random() < 0.5:
-        f.data = TOP64 - 4096 * rng.randint(1, max(1, f.blocks * f.size // 4096))
+        f.data = TOP64 - 4096 * rng.randint(1, max(1, f.blocks * f.internal // 4096))
     else:
         f.map, f.sectors = TOP64 - 4096, rng.choice((1024, 1100))
         f.blocks = f.sectors + f.lanes
@@ -127,7 +129,7 @@ def one_record(rng, handle, f):
         "sequence": (0, 1, 2, 3, 4, TOP32 - 1),
         "sector": (0, f.sectors - 1, f.sectors, rng.randrange(f.sectors)),
         "old": (0, f.blocks - 1, f.blocks, rng.randrange(f.blocks)),
-        "made": (0, 1, full - 7, full - 6, full - 5, full - 3, full - 2, full - 1, full, TOP32 - 1),
+        "made": (0, 1, full - 7, full - 6, full - 5, full - 3, full - 2, full - 1, full, full + (f.internal - f.size) // 4 - 1, TOP32 - 1),
     }
     value = rng.choice(edges[field] + (rng.getrandbits(32),) * (rng.random() < 0.1))
     handle.records[lane] = handle.records[lane]._replace(**{field: value})
@@ -209,7 +211,7 @@ def refusing(handle, lane, sector):
     yield 16, with_record(handle, lane, block=handle.figures.blocks)
     for name in ("size", "blocks", "copy"):
         forged = handle.copy()
-        setattr(forged.figures, name, getattr(handle.figures, name) + 8)
+        setattr(forged.figures, name, getattr(handle.figures, name) + 4)
         yield 16, forged
     if lane > 0:
         yield 11, narrowed(handle, handle.figures.sectors, lane)
@@ -249,8 +251,8 @@ def a_sector(rng, handle, focus=None):
 
 def a_length(rng, handle):
     """A sector buffer's length: most often right."""
-    size = handle.figures.size if handle.figures.size in (512, 4096) else 512
-    return size if rng.random() < 0.7 else rng.choice((size - 1, size + 1, 0, 511, 512, 513, 4095, 4096))
+    size, internal = next((pair for pair in random_arenas.PAIRS if pair[0] == handle.figures.size), (512, 512))
+    return size if rng.random() < 0.7 else rng.choice((size - 1, size + 1, 0, internal, internal, 512, 513, 520, 528, 4095, 4096, 4104))
 
 
 def a_call(rng, handle, focus=None):

@@ -16,6 +16,7 @@ import layouts
 import library
 import model
 import random_arenas
+import sizes
 import sloppy
 from pair import Difference, Notes, Pair
 
@@ -67,7 +68,7 @@ class History:
         for _ in range(rng.choice((0, 0, 1, 3))):
             wrong = [size, sectors, lanes, 16, 16]
             for place in rng.sample(range(5), rng.choice((1, 1, 2))):
-                wrong[place] = rng.choice((0, 1, 15, 17, 512, 520, wrong[place] + 1, 4096) + (2**32 - 1,) * (place < 3))
+                wrong[place] = rng.choice((0, 1, 15, 17, 512, wrong[place] + 1, 4096) + (520, 576, 4160, 2**32 - 1) * (place < 3))
             self.pair.make(*wrong[:3], rng.randbytes(wrong[3]), rng.randbytes(wrong[4]))
         self.pair.make(size, sectors, lanes, rng.randbytes(16), rng.randbytes(16))
         self.row = book.Row(self.pair.arena, f)
@@ -157,7 +158,7 @@ class History:
         if self.rng.random() < 0.4:
             self.cut_write()
         for write in self.row.flying.values():
-            self.notes.cuts[max(0, write.tally - self.row.words)] += 1
+            self.notes.cuts[self.row.size, max(0, write.tally - self.row.words)] += 1
         self.demand(book.nothing_sloppy(self.pair.arena, self.pair.handle.figures, self.layout), "calls leave an arena that passes 18")
         self.end_list()
         self.pair.drop()
@@ -256,7 +257,7 @@ class History:
     def work(self):
         """Some writes, each stepped to a tally of its own, in bursts and mixed with all other calls."""
         rng, words = self.rng, self.row.words
-        wanted, aims = rng.choice((0, 1, 1, 2, 2, 3, 5) * 6 + (16,) if words == 128 else (0, 1, 1)), {}
+        wanted, aims = rng.choice((0, 1, 1, 2, 2, 3, 5) * 6 + (16,) if words < 1024 else (0, 1, 1)), {}
         while wanted or any(self.tally(lane) < aim for lane, aim in aims.items()):
             if wanted and rng.random() < 0.5:
                 wanted -= 1
@@ -348,7 +349,7 @@ def longest(lib, notes):
     """A handle that fits a slice of the greatest length is accepted, and one of a slice that is a block longer is not."""
     for length, number in ((16777216, 0), (16777216 + 4096, 16)):
         pair = Pair(lib, bytes(length), random.Random(length), notes)
-        figures = model.Figures(512, 1, 512, 2, 1, 4096, 8192, 12288, length - 4096)
+        figures = model.Figures(520, 1, 576, 2, 1, 4096, 8192, 12288, length - 4096)
         pair.hold(calls.Handle(length, figures, [calls.Record(0, 1, 0, 1)] + [calls.Record()] * 15, 32))
         if pair.start(0, 0) != number:
             pair.fail("not so: the start answers %d" % number)
@@ -361,6 +362,7 @@ def run(lib, count, first=1):
         named(lib, notes)
         longest(lib, notes)
         layouts.try_all(lib, notes)
+        sizes.try_all(lib, notes)
         sloppy.try_openings(lib, notes)
         sloppy.try_orders(lib, notes)
         for seed in range(first, first + count):
@@ -378,7 +380,8 @@ def unseen(notes):
     wanted = {name: (0,) + order for name, order in calls.ORDER.items()}
     wanted.update(make=(0, 1, 3, 10), open=(*range(9), 16, 18), cut_open=(*range(9), 16, 18))
     missing = ["%s %d" % (name, number) for name, numbers in wanted.items() for number in numbers if not notes.seen[name, number]]
-    return missing + ["cut %d words after the data" % place for place in range(5) if not notes.cuts[place]]
+    places = [(size, place) for size, _ in random_arenas.PAIRS for place in range(5)]
+    return missing + ["cut of %d bytes, %d words after the data" % place for place in places if not notes.cuts[place]]
 
 
 def main(first=1, count=500):

@@ -10,12 +10,13 @@ import calls
 import forged
 import library
 import model
+import random_arenas
 import sloppy
 from pair import Pair
 from random_arenas import LAYOUTS, REFUSED_LAYOUTS, other_layout
 
 AMPLE = 2**15
-LANE_SIZES = ((512, 5, 3), (512, 6, 6), (512, 80, 16), (4096, 3, 2))
+LANE_SIZES = ((512, 5, 3), (520, 6, 6), (512, 80, 16), (528, 5, 3), (4096, 3, 2), (4104, 3, 2))
 
 # What opening of a made arena answers where one byte of a lane is 0x80 or more, by layout: the first and last byte of a run, and the number.
 MADE_BYTES = {
@@ -183,7 +184,7 @@ def try_lanes(lib, notes):
         size, sectors, lanes = sizes
         for layout in LAYOUTS:
             for first in sorted({0, lanes // 2, lanes - 1}):
-                pair = Pair(lib, model.made(*sizes), rng, notes)
+                pair = Pair(lib, random_arenas.made(rng, *sizes), rng, notes)
                 answers(pair, other_layout(layout), 0, 0, "a made arena")
                 pair.open(AMPLE, layout)
                 order = [first, *(lane for lane in range(lanes) if lane != first)]

@@ -138,7 +138,11 @@ class Library:
         return self.call("btt_cut_open", arena, work, layout, k, mended), mended.value
 
     def read(self, arena, handle, sector, buffer):
-        return self.call("btt_read", arena, handle, sector, buffer)
+        """The number; what is read past the buffer's end, as a block's rest would be, makes the buffer longer."""
+        room = buffer + GUARD
+        number = self.call("btt_read", arena, handle, sector, memoryview(room)[: len(buffer)])
+        buffer[:] = room.removesuffix(GUARD)
+        return number
 
     def start(self, arena, handle, lane, sector):
         return self.call("btt_start", arena, handle, lane, sector)

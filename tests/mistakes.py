@@ -1,8 +1,8 @@
 """The model with one deliberate mistake, in the place of a library, to see that the histories, the runs and the logs find it.
 
 A mistake is an edit of the model's text. Run as a program it says how many histories each takes, and fails if one is not found.
-The mistakes of PROMISED, those of rule 18, of the layout and most of the replay are put into both sides too, where only the promises of the rules can
-find them.
+The mistakes of PROMISED, those of rule 18, of the layout, of the sizes and most of the replay are put into both sides too, where only the promises of
+the rules can find them.
 """
 import contextlib
 import pathlib
@@ -17,6 +17,7 @@ import layout_mistakes
 import library
 import model
 import replay
+import size_mistakes
 import sloppy_mistakes
 
 HERE = pathlib.Path(__file__).resolve().parent
@@ -106,8 +107,8 @@ MAP_JUDGED = "    if any(w >> 30 and w & 0x3FFFFFFF >= f.blocks for w in struct.
 
 # The same, of figures, making and opening.
 MODEL_MISTAKES = {
-    "figures without the internal size": ("and f.internal == f.size", ""),
-    "figures without the sector size": ("return size in (512, 4096) and", "return size % 4 == 0 and"),
+    "figures without the internal size": ("and f.internal == internal_size(f.size)", ""),
+    "figures without the sector size": ("return size in SECTOR_SIZES and", "return size % 4 == 0 and"),
     "figures without the blocks": ("and f.blocks == f.sectors + f.lanes", ""),
     "figures without sectors at least lanes": ("and sectors >= lanes", ""),
     "figures with 17 lanes": ("1 <= lanes <= MAX_LANES", "1 <= lanes <= MAX_LANES + 16"),
@@ -117,11 +118,11 @@ MODEL_MISTAKES = {
     "figures with the map start anywhere": (STARTS_MULTIPLES, STARTS_MULTIPLES.replace("starts)", "starts if start != f.map)")),
     "figures with the flog start anywhere": (STARTS_MULTIPLES, STARTS_MULTIPLES.replace("starts)", "starts if start != f.flog)")),
     "figures with data at 0": ("and f.data >= 4096", ""),
-    "figures without the end of the data": ("and f.data + f.blocks * f.size <= f.map", ""),
+    "figures without the end of the data": ("and f.data + f.blocks * f.internal <= f.map", ""),
     "figures without the end of the map": ("and f.map + 4 * f.sectors <= f.flog", ""),
     "figures without the end of the flog": ("and f.flog + 64 * f.lanes <= f.copy", ""),
     "figures with a copy before the end": ("and f.copy == n - 4096", ""),
-    "sums of the data wrap": ("f.data + f.blocks * f.size <= f.map", "(f.data + f.blocks * f.size) % 2**64 <= f.map"),
+    "sums of the data wrap": ("f.data + f.blocks * f.internal <= f.map", "(f.data + f.blocks * f.internal) % 2**64 <= f.map"),
     "sums of the map wrap": ("f.map + 4 * f.sectors <= f.flog", "(f.map + 4 * f.sectors) % 2**64 <= f.flog"),
     "the larger sequence is newer": ("return 0 if first == successor(second) else 1", "return 0 if first > second else 1"),
     "an older sequence of 4 passes": ("if first in (1, 2, 3) and second == 0:", "if first in (1, 2, 3) and second in (0, 4):"),
@@ -142,7 +143,7 @@ MODEL_MISTAKES = {
     "opening: 4 before 3": ("    if version != (2, 0) or", "    if flags != 0:\n        return Opened(4)\n    if version != (2, 0) or"),
     "a forbidden first block is passed over": ("if sound(block):", "if sound(block) and figures_allowed(decode(block)[0], len(arena)):"),
     "making touches the data": ("    arena[0:4096] = block\n", "    arena[0:4096] = block\n    arena[4096:4100] = bytes(4)\n"),
-    "making leaves the padding": ("    end = f.data + f.blocks * f.size\n", "    end = f.map\n"),
+    "making leaves the padding": ("    end = f.data + f.blocks * f.internal\n", "    end = f.map\n"),
     "making: 1 before 3": (SIZES_JUDGED, LENGTH_JUDGED + SIZES_JUDGED),
 }
 
@@ -210,7 +211,7 @@ REPLAY_MISTAKES = {
     "the rest of the answers is cleared": (FIT, FIT + "    answers[fit:] = bytes(len(answers) - fit)\n"),
 }
 
-REPLAYED = {**REPLAY_MISTAKES, **layout_mistakes.REPLAY_MISTAKES}
+REPLAYED = {**REPLAY_MISTAKES, **layout_mistakes.REPLAY_MISTAKES, **size_mistakes.REPLAY_MISTAKES}
 
 # Mistakes that the promises find with no library to compare with.
 PROMISED = """sequence before new, map word before the flog, flog before the data, data words in falling order, data into the old block,
@@ -333,8 +334,10 @@ def tried_replays(names):
 
 def main(words):
     """Tries every mistake, or those whose names have one of these words."""
-    of_calls = {**CALL_MISTAKES, **swapped_orders(), **sloppy_mistakes.CALL_MISTAKES, **layout_mistakes.CALL_MISTAKES}
-    of_model = {**MODEL_MISTAKES, **sloppy_mistakes.MODEL_MISTAKES, **layout_mistakes.MODEL_MISTAKES}
+    of_calls, of_model = {**CALL_MISTAKES, **swapped_orders()}, dict(MODEL_MISTAKES)
+    for others in (sloppy_mistakes, layout_mistakes, size_mistakes):
+        of_calls.update(others.CALL_MISTAKES)
+        of_model.update(others.MODEL_MISTAKES)
     edits = [("calls", name, edit) for name, edit in of_calls.items()] + [("model", name, edit) for name, edit in of_model.items()]
     missed = ["no such mistake: " + name for name in set(PROMISED) - {name for _, name, _ in edits}]
     for module, name, edit in edits:
@@ -343,7 +346,7 @@ def main(words):
         began = time.process_time()
         needed, fault = histories_needed(mistaken_library(module, edit))
         alone = "-"
-        if name in PROMISED or name.startswith(("18: ", "layout: ")):
+        if name in PROMISED or name.startswith(("18: ", "layout: ", "size: ")):
             with on_both_sides(module, edit) as lib:
                 alone, fault = histories_needed(lib)
         missed += [name] if None in (needed, alone) else []

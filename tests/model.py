@@ -11,6 +11,8 @@ SIGNATURE = b"BTT_ARENA_INFO\0\0"
 BLOCK = 4096
 MAX_LANES = 16
 REPORT_LIMIT = 65536
+# The bytes of a sector that are allowed.
+SECTOR_SIZES = (512, 520, 528, 4096, 4104)
 # The layout in which the programs and the replay open.
 PROGRAM_LAYOUT = 16
 
@@ -59,19 +61,24 @@ def layout_allowed(layout):
     return layout in (16, 32)
 
 
+def internal_size(size):
+    """The bytes of a block: those of a sector, rounded up to a multiple of 64."""
+    return (size + 63) // 64 * 64
+
+
 def sizes_allowed(size, sectors, lanes):
-    return size in (512, 4096) and 1 <= lanes <= MAX_LANES and sectors >= lanes
+    return size in SECTOR_SIZES and 1 <= lanes <= MAX_LANES and sectors >= lanes
 
 
 def figures_allowed(f, n):
     starts = (f.data, f.map, f.flog, f.copy)
     return (
         sizes_allowed(f.size, f.sectors, f.lanes)
-        and f.internal == f.size
+        and f.internal == internal_size(f.size)
         and f.blocks == f.sectors + f.lanes
         and all(start % 4096 == 0 for start in starts)
         and f.data >= 4096
-        and f.data + f.blocks * f.size <= f.map
+        and f.data + f.blocks * f.internal <= f.map
         and f.map + 4 * f.sectors <= f.flog
         and f.flog + 64 * f.lanes <= f.copy
         and f.copy == n - 4096
@@ -82,11 +89,11 @@ def made_figures(size, sectors, lanes):
     def after(end):
         return (end + 4095) // 4096 * 4096
 
-    blocks = sectors + lanes
-    map_start = after(4096 + blocks * size)
+    blocks, internal = sectors + lanes, internal_size(size)
+    map_start = after(4096 + blocks * internal)
     flog = after(map_start + 4 * sectors)
     copy = after(flog + 64 * lanes)
-    return Figures(size, sectors, size, blocks, lanes, 4096, map_start, flog, copy)
+    return Figures(size, sectors, internal, blocks, lanes, 4096, map_start, flog, copy)
 
 
 def info_block(f, first, second, flags=0, version=(2, 0), info_size=4096, next_arena=0, unnamed=b""):
@@ -111,7 +118,7 @@ def make(arena, size, sectors, lanes, first, second):
     if len(first) != 16 or len(second) != 16:
         return 10
     block = info_block(f, first, second)
-    end = f.data + f.blocks * f.size
+    end = f.data + f.blocks * f.internal
     arena[0:4096] = block
     arena[end:] = bytes(len(arena) - end)
     for lane in range(lanes):

@@ -1,7 +1,9 @@
 """One arena and its latest handle, held twice: each call is made by the model and by the library, and all that was lent is compared."""
 import collections
 import struct
+from dataclasses import replace
 
+import book
 import calls
 import library
 import model
@@ -12,7 +14,7 @@ class Difference(Exception):
 
 
 class Notes:
-    """The last calls made, how often each call gave each number, and how far past its data words a write was when the power was cut."""
+    """The last calls made, how often each call gave each number, and, by sector size, how far past its data words a write was at a power cut."""
 
     def __init__(self):
         self.log, self.seen, self.cuts = collections.deque(maxlen=8), collections.Counter(), collections.Counter()
@@ -24,11 +26,20 @@ class Pair:
     def __init__(self, lib, arena, rng, notes):
         self.lib, self.rng, self.notes = lib, rng, notes
         self.arena, self.lent = bytearray(arena), bytearray(arena)
+        self.watched = None
+        self.watch(figures_of(self.lent))
         self.hold(calls.no_handle())
 
     def hold(self, handle):
         """Makes this the handle of both sides."""
         self.handle, self.lent_handle = handle, bytearray(library.handle_bytes(handle))
+        self.watch(handle.figures)
+
+    def watch(self, f):
+        """From here on calls must leave the rest of every block by these figures; with no allowed sector size, by the last ones still."""
+        if self.watched is None or f != self.watched and f.size in book.BLOCK_BYTES:
+            self.watched, self.take = replace(f), book.rests(f, len(self.lent))
+            self.rests = self.take(self.lent)
 
     def aside(self, arena=None, handle=None):
         """A pair of its own on a copy, where a call may be given what is not the latest."""
@@ -46,6 +57,8 @@ class Pair:
         self.notes.seen[call[0], expected[0]] += 1
         if expected != got:
             self.fail("answer %s, not %s" % (got, expected))
+        if self.take(self.lent) != self.rests:
+            self.fail("not so: no call changes the rest of a block")
         if self.arena != self.lent:
             self.fail("the arena differs first at byte %d" % first_difference(self.arena, self.lent))
         ours = library.handle_bytes(self.handle)
@@ -57,6 +70,7 @@ class Pair:
 
     def make(self, size, sectors, lanes, first, second):
         names = bytearray(first), bytearray(second)
+        self.watch(model.Figures(size, sectors, 0, sectors + lanes, lanes, 4096, 0, 0, 0))
         number = model.make(self.arena, size, sectors, lanes, first, second)
         got = self.lib.make(self.lent, size, sectors, lanes, *names)
         self.compare(("make", size, sectors, lanes, len(first), len(second)), (number,), (got,), (first, names[0]), (second, names[1]))
@@ -64,6 +78,7 @@ class Pair:
 
     def open(self, room, layout):
         """Opens in that layout with a work buffer of that length; gives the number and the mended count."""
+        self.watch(figures_of(self.lent))
         work = self.rng.randbytes(room)
         ours, theirs = bytearray(work), bytearray(work)
         opened = model.open_arena(self.arena, ours, layout)
@@ -74,6 +89,7 @@ class Pair:
 
     def cut_open(self, room, layout, k):
         """As open, but with at most k stores, and no handle."""
+        self.watch(figures_of(self.lent))
         work = self.rng.randbytes(room)
         ours, theirs = bytearray(work), bytearray(work)
         opened = model.cut_open(self.arena, ours, layout, k)
@@ -141,6 +157,7 @@ class Pair:
         for offset, value in stores:
             calls.put(self.arena, offset, value)
             calls.put(self.lent, offset, value)
+        self.rests = self.take(self.lent)
 
     def drop(self):
         """Loses the handle."""
@@ -148,5 +165,12 @@ class Pair:
         self.hold(calls.no_handle())
 
 
+def figures_of(arena):
+    """The figures of the info block that counts, all zero where none does."""
+    block = model.counting_block(arena)
+    return model.decode(block)[0] if block else calls.no_handle().figures
+
+
 def first_difference(ours, theirs):
-    return next(i for i, (a, b) in enumerate(zip(ours, theirs)) if a != b)
+    """The first byte that differs, or the end of the shorter."""
+    return next((i for i, (a, b) in enumerate(zip(ours, theirs)) if a != b), min(len(ours), len(theirs)))

@@ -2,12 +2,19 @@
 import random
 import struct
 
+import book
 import model
 
+# Sector size, sectors and lanes; all of these arenas are short enough for the report.
 SIZES = ((512, 1, 1), (512, 3, 2), (512, 20, 4), (512, 60, 4), (512, 80, 16), (4096, 3, 2))
-SMALL = ((512, 1, 1), (512, 2, 1), (512, 3, 2), (512, 5, 3), (512, 6, 6), (512, 20, 4))
-WIDE = ((512, 60, 4), (512, 30, 16), (512, 80, 16))
-LARGE_SECTORS = ((4096, 1, 1), (4096, 3, 2), (4096, 5, 3))
+SIZES += ((520, 1, 1), (520, 13, 2), (520, 60, 4), (528, 3, 2), (528, 20, 4), (528, 60, 16), (4104, 1, 1), (4104, 3, 2))
+# Sectors and lanes of the arenas that histories begin with.
+SMALL = ((1, 1), (2, 1), (3, 2), (5, 3), (6, 6), (20, 4))
+WIDE = ((60, 4), (30, 16), (80, 16))
+FEW = ((1, 1), (3, 2), (5, 3))
+# The pairs of sector size and internal size that are allowed, and numbers that a pair may be wrong by.
+PAIRS = tuple(book.BLOCK_BYTES.items())
+PAIR_NUMBERS = (0, 256, 512, 516, 520, 524, 528, 544, 576, 640, 1024, 4096, 4100, 4104, 4112, 4160, 4224, 4608, 8192)
 # The layouts, and in each the bytes of a lane's 64 that are in neither half.
 LAYOUTS = (16, 32)
 PADDING = {16: tuple(range(32, 64)), 32: (*range(16, 32), *range(48, 64))}
@@ -17,9 +24,17 @@ REFUSED_LAYOUTS += (16 + 2**8, 16 + 2**16, 32 + 2**16, 32 + 2**31)
 
 
 def small_sizes(rng):
-    """Sector size, sectors and lanes of an arena that a history begins with: S is 4,096 in one of twelve."""
+    """Sector size, sectors and lanes of an arena that a history begins with: S is 4,096 or 4,104 in one of twelve."""
     chance = rng.random()
-    return rng.choice(LARGE_SECTORS if chance < 0.08 else WIDE if chance < 0.35 else SMALL)
+    if chance < 0.08:
+        return rng.choice((4096, 4104)), *rng.choice(FEW)
+    return rng.choice((512, 520, 528)), *rng.choice(WIDE if chance < 0.35 else SMALL)
+
+
+def a_pair(rng):
+    """A sector size and an internal size: a pair that is allowed, one number for both, the numbers of two pairs, or any two."""
+    number, (size, _), (_, internal) = rng.choice(PAIR_NUMBERS), rng.choice(PAIRS), rng.choice(PAIRS)
+    return rng.choice((rng.choice(PAIRS), (number, number), (size, internal), (rng.choice(PAIR_NUMBERS), number)))
 
 
 def spread(rng, size, sectors, lanes):
@@ -30,6 +45,13 @@ def spread(rng, size, sectors, lanes):
         gap += rng.choice((0, 0, 0, 4096))
         setattr(f, name, getattr(f, name) + gap)
     return f
+
+
+def made(rng, size, sectors, lanes):
+    """A made arena with anything in its blocks, behind the sectors too."""
+    arena = bytearray(rng.randbytes(model.made_figures(size, sectors, lanes).copy + 4096))
+    assert model.make(arena, size, sectors, lanes, rng.randbytes(16), rng.randbytes(16)) == 0
+    return arena
 
 
 def other_layout(layout):
@@ -133,6 +155,8 @@ def damaged(rng, layout):
             figures = dict(f.__dict__)
             name = rng.choice(list(figures))
             figures[name] = rng.choice((0, 1, figures[name], figures[name] + 1, figures[name] + 4096, 2**32 - 1)) % 2**32
+            if name in ("size", "internal"):
+                figures["size"], figures["internal"] = a_pair(rng)
             header = rng.choice(({}, {"flags": 1}, {"version": (2, 1)}, {"next_arena": 4096}, {"info_size": 4095}))
             block = model.info_block(model.Figures(**figures), bytes(16), bytes(16), **header)
             arena[:4096] = block

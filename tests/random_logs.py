@@ -1,5 +1,6 @@
 """Random run logs, well formed and damaged, and the arenas that they are replayed on."""
 import logs
+import model
 import random_arenas
 import runlog
 
@@ -36,7 +37,7 @@ def a_sector(rng, f):
 
 def a_burst(rng, f):
     """How many steps are made in turn: any, or just as many as bring a write to a place where a cut makes a difference."""
-    words = f.size // 4 if f.size in (512, 4096) else 128
+    words = f.size // 4 if f.size in model.SECTOR_SIZES else 128
     ends = (words, words + 3, words + 4, words + 4, words + 5, words + 5, words + 5)
     return rng.choice((1, 1, 2, 3, 30, rng.randrange(1, words)) + ends)
 

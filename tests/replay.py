@@ -13,12 +13,14 @@ import tempfile
 import time
 
 import arenas
+import book
 import library
 import logs
 import model
+import random_arenas
 import random_logs
 import runlog
-from pair import Difference, first_difference
+from pair import Difference, figures_of, first_difference
 
 TOP = pathlib.Path(__file__).resolve().parent.parent
 PROGRAM = TOP / "target" / "bin" / "replay"
@@ -32,7 +34,7 @@ ANSWERS = {runlog.START: (0, 9, 11, 12, 13), runlog.STEP: (0, 11, 14), runlog.CU
 
 
 class Notes:
-    """How often a record of each kind gave each answer, how each replay ended, and how far past its data a write was at a cut."""
+    """How often a record of each kind gave each answer, how each replay ended, and, by sector size, how far past its data a write was at a cut."""
 
     def __init__(self):
         self.seen, self.ends, self.cuts = collections.Counter(), collections.Counter(), collections.Counter()
@@ -54,6 +56,9 @@ def compared(lib, image, log, work, answers):
     expected = replayed.number, len(replayed.answers), replayed.stopped or 0
     if got != expected:
         raise Difference("number, records run and offset are %s, not %s" % (got, expected))
+    rests = book.rests(figures_of(image), len(image))
+    if rests(theirs[0]) != rests(image):
+        raise Difference("not so: a replay leaves the rest of every block")
     for what, *both in zip(("the arena", "the work buffer", "the log", "the answers"), ours, theirs):
         same(what, *both)
     return replayed, ours[0]
@@ -83,7 +88,7 @@ def last_writes(rows, answers, words, notes):
             if len(flying[lane][1]) == words + 5:
                 finished.update([flying.pop(lane)])
         else:
-            notes.cuts.update(max(0, len(steps) - words) for _, steps in flying.values())
+            notes.cuts.update((4 * words, max(0, len(steps) - words)) for _, steps in flying.values())
             finished.update(write for write in flying.values() if len(write[1]) == words + 4)
             flying.clear()
     return finished
@@ -177,7 +182,8 @@ def unseen(notes):
     """What never came: an answer of a kind of record, an end, a write cut at a place that matters."""
     missing = ["kind %d %d" % (kind, answer) for kind, answers in ANSWERS.items() for answer in answers if not notes.seen[kind, answer]]
     missing += ["end %s" % end for end in (*range(1, 9), 18, "end", "long", "stopped") if not notes.ends[end]]
-    return missing + ["cut %d words after the data" % place for place in range(5) if not notes.cuts[place]]
+    places = [(size, place) for size, _ in random_arenas.PAIRS for place in (0, 3, 4)]
+    return missing + ["cut of %d bytes, %d words after the data" % place for place in places if not notes.cuts[place]]
 
 
 def written(image, log):
@@ -236,7 +242,7 @@ def check_program():
 def main(first=1, count=500):
     began = time.process_time()
     notes, last, fault = run(library.built(), count, first)
-    print(dict(sorted(notes.seen.items())), "ends", dict(notes.ends), "cuts", dict(sorted(notes.cuts.items())[:5]))
+    print(dict(sorted(notes.seen.items())), "ends", dict(notes.ends), "cuts", dict(sorted(notes.cuts.items())))
     print("to random log %d, fault: %s, never seen: %s, %.1f s" % (last, fault, unseen(notes), time.process_time() - began))
     return 1 if fault else 0
 

@@ -1,6 +1,6 @@
 """Compares what the programs and the library do with the model.
 
-The report is run on every arena of tests/arenas, on random ones and on those of sloppy.py and layouts.py; what `cases`, `runs` and `replay`
+The report is run on every arena of tests/arenas, on random ones and on those of sloppy.py, layouts.py and sizes.py; what `cases`, `runs` and `replay`
 must write (rt runs them) has to be what the model works out; the checksums of random runs of words and of changed info blocks are the
 model's; the library goes through random histories of calls, call by call beside the model; the kept run logs of tests/logs and random ones
 are replayed by the library and the program.
@@ -21,6 +21,7 @@ import model
 import random_arenas
 import replay
 import running_cases
+import sizes
 import sloppy
 
 TOP = pathlib.Path(__file__).resolve().parent.parent
@@ -83,6 +84,15 @@ def check_layouts():
     return wrong
 
 
+def check_sizes():
+    """What is wrong with the reports on the arenas of sizes.py, which tell the sector size, as lines."""
+    wrong = []
+    for size, arena, told in sizes.reports():
+        fault = check_report(arena) or (None if model.report(arena) == told else "the model's report is not %r" % told)
+        wrong += ["sectors of %d bytes: %s" % (size, fault)] if fault else []
+    return wrong
+
+
 def check_running_cases():
     """What is wrong with the text of case 9, its twin and case 10, as lines."""
     written = running_cases.text()
@@ -139,7 +149,8 @@ def main():
     if (cases.CASES / "stdout").read_text() != cases.text():
         wrong.append("cases: the stored text is not the model's")
     lib = library.built()
-    wrong += check_sloppy() + check_layouts() + check_running_cases() + check_checksums(lib) + check_histories(lib) + check_replays(lib)
+    wrong += check_sloppy() + check_layouts() + check_sizes() + check_running_cases() + check_checksums(lib)
+    wrong += check_histories(lib) + check_replays(lib)
     for line in wrong:
         print("tests: " + line)
     print("tests: %d named and %d random arenas, answers %s, %d faults" % (len(built), RANDOM, dict(sorted(answers.items())), len(wrong)))

@@ -4,6 +4,7 @@ The numbers that must come are told here from the rules, so that a mistake that 
 """
 import random
 import struct
+from dataclasses import replace
 
 import arenas
 import book
@@ -15,7 +16,7 @@ import random_arenas
 from pair import Pair
 
 AMPLE = 2**15
-SIZES = ((512, 5, 3), (512, 20, 4), (512, 80, 16))
+SIZES = ((512, 5, 3), (520, 20, 4), (512, 80, 16), (528, 8, 6), (4104, 4, 3))
 # What opening judges after the work buffer's length.
 AFTER_5 = (0, 6, 7, 18, 8)
 
@@ -55,7 +56,7 @@ FAULTS = (
 def made(rng, layout):
     """A made arena, whose map words are all zero."""
     sizes = rng.choice(SIZES)
-    return model.made(*sizes), model.made_figures(*sizes)
+    return random_arenas.made(rng, *sizes), model.made_figures(*sizes)
 
 
 def valid(rng, layout):
@@ -65,7 +66,7 @@ def valid(rng, layout):
 def gapped(rng, size, sectors, lanes):
     """Figures with a gap before every part."""
     f = model.made_figures(size, sectors, lanes)
-    return model.Figures(size, sectors, size, f.blocks, lanes, f.data + 4096, f.map + 8192, f.flog + 12288, f.copy + 16384)
+    return replace(f, data=f.data + 4096, map=f.map + 8192, flog=f.flog + 12288, copy=f.copy + 16384)
 
 
 def with_padding(rng, layout):
@@ -108,7 +109,7 @@ def put(arena, f, sector, word):
 def unjudged(rng, layout):
     """Anything in one part that no rule judges and zeroes in the others, anything in all, and unnamed info bytes: all of these open."""
     for sizes in SIZES:
-        for chosen in ("before the data", "behind the data", "behind the map", "behind the flog", "everywhere"):
+        for chosen in ("before the data", "behind a sector", "behind the data", "behind the map", "behind the flog", "everywhere"):
             arena, f = random_arenas.valid(rng, layout, (sizes,), gapped)
             for part, start, end in parts(f):
                 # Every word of these bytes would be sloppy in a map.
@@ -120,9 +121,10 @@ def unjudged(rng, layout):
 
 
 def parts(f):
-    """The bytes between the parts of an arena."""
+    """The bytes between the parts of an arena, and those of each block behind its sector."""
     yield "before the data", 4096, f.data
-    yield "behind the data", f.data + f.blocks * f.size, f.map
+    yield from (("behind a sector", at + f.size, at + f.internal) for at in range(f.data, f.data + f.blocks * f.internal, f.internal))
+    yield "behind the data", f.data + f.blocks * f.internal, f.map
     yield "behind the map", f.map + 4 * f.sectors, f.flog
     yield "behind the flog", f.flog + 64 * f.lanes, f.copy
 
@@ -180,8 +182,8 @@ def demand_kept(pair, arena, handle):
 def try_orders(lib, notes):
     """Every number before 18 in a call's order, by a live handle and by forged ones; a step judges no word."""
     rng = random.Random(2)
-    for sizes, layout in zip(SIZES, (16, 32, 16), strict=True):
-        pair = Pair(lib, model.made(*sizes), rng, notes)
+    for sizes, layout in zip(SIZES, (16, 32, 16, 32, 16), strict=True):
+        pair = Pair(lib, random_arenas.made(rng, *sizes), rng, notes)
         pair.open(AMPLE, layout)
         f = pair.handle.figures
         for lane, sector in ((0, f.sectors - 1), (f.lanes - 1, f.lanes)):
@@ -232,7 +234,7 @@ class Live:
     def __init__(self, lib, seed, notes):
         self.rng = rng = random.Random(seed)
         sizes, self.layout = (random_arenas.small_sizes(rng),), rng.choice(random_arenas.LAYOUTS)
-        arena = model.made(*sizes[0])
+        arena = random_arenas.made(rng, *sizes[0])
         if rng.random() < 0.5:
             arena = random_arenas.aged(rng, *random_arenas.valid(rng, self.layout, sizes), self.layout)
         self.pair = Pair(lib, arena, rng, notes)

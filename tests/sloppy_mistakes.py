@@ -80,13 +80,13 @@ MODEL_MISTAKES = {
     "18: the byte after each lane judged": (PADDING, PADDING.replace("64", "65")),
     "18: the rest of the flog's page judged": (JUDGED, JUDGED + refused("any(arena[f.flog + 64 * f.lanes : f.copy])")),
     "18: bytes behind the map judged": (JUDGED, JUDGED + refused("any(arena[f.map + 4 * f.sectors : f.flog])")),
-    "18: bytes behind the data judged": (JUDGED, JUDGED + refused("any(arena[f.data + f.blocks * f.size : f.map])")),
+    "18: bytes behind the data judged": (JUDGED, JUDGED + refused("any(arena[f.data + f.blocks * f.internal : f.map])")),
     "18: bytes before the data judged": (JUDGED, JUDGED + refused("any(arena[4096 : f.data])")),
     "18: unnamed info bytes judged": (JUDGED, JUDGED + refused("any(block[120:4088])")),
     "18: the work buffer is kept": ("if opened.number in (0, 6, 7, 18, 8):", "if opened.number in (0, 6, 7, 8):"),
     "18: answered with 7": (JUDGED, JUDGED.replace("18", "7")),
     "18: making leaves a lane's padding": (
-        "    end = f.data + f.blocks * f.size\n", "    end, kept = f.data + f.blocks * f.size, arena[f.flog + 32 : f.flog + 64]\n",
+        "    end = f.data + f.blocks * f.internal\n", "    end, kept = f.data + f.blocks * f.internal, arena[f.flog + 32 : f.flog + 64]\n",
         COPY_MADE, COPY_MADE + "    arena[f.flog + 32 : f.flog + 64] = kept\n",
     ),
 }
