@@ -23,12 +23,27 @@ FIGURES = model.made_figures(512, 60, 4)
 MAP, FLOG, COPY = FIGURES.map, FIGURES.flog, FIGURES.copy
 # Allowed figures that making does not work out, with a gap before every part.
 LOOSE = model.Figures(512, 10, 512, 12, 2, 8192, 20480, 28672, 36864)
+# The figures of the arena with 48 lanes.
+MOST_LANES = model.made_figures(512, 48, 48)
 
 
 def sectors_of(size, sectors=52, lanes=4):
     """A made arena with anything in its blocks, behind the sectors too; with 52 sectors of 520 or 528 bytes its parts start as those of fresh."""
     arena = bytearray(b"\xA5" * (model.made_figures(size, sectors, lanes).copy + 4096))
     assert model.make(arena, size, sectors, lanes, bytes(range(16)), bytes(range(16, 32))) == 0
+    return arena
+
+
+def lanes_of(lanes):
+    """A made arena with as many sectors as lanes; 32 lanes are the most that 49,152 bytes hold, 48 the most that 65,536 bytes do."""
+    return model.made(512, lanes, lanes, bytes(range(16)), bytes(range(16, 32)))
+
+
+def all_pending(lanes):
+    """The same, with a write pending on every lane; the last lane writes the first sector."""
+    arena, flog = lanes_of(lanes), model.made_figures(512, lanes, lanes).flog
+    for lane, sector in enumerate(reversed(range(lanes))):
+        put(arena, flog + 64 * lane + 16, sector, sector, lanes + lane, 2)
     return arena
 
 
@@ -100,6 +115,10 @@ ARENAS = {
     "smallest": lambda: model.made(512, 1, 1),
     "large-sectors": lambda: model.made(4096, 1, 1),
     "widest": lambda: model.made(512, 80, 16),
+    "seventeen-lanes": lambda: lanes_of(17),
+    "thirty-two-lanes": lambda: lanes_of(32),
+    "forty-eight-lanes": lambda: lanes_of(48),
+    "forty-eight-pending": lambda: all_pending(48),
     "sectors-of-520": lambda: sectors_of(520),
     "sectors-of-528": lambda: sectors_of(528),
     "sectors-of-4104": lambda: sectors_of(4104, 3, 2),
@@ -133,7 +152,9 @@ ARENAS = {
     "refused-3-4104-in-4104": lambda: roomy(4104, 4104),
     "refused-3-end-of-data-520": lambda: with_blocks(sectors_of(520, 13, 2), model.made_figures(520, 13, 2), map=12288),
     "refused-3-version": lambda: with_blocks(fresh(), version=(1, 1)),
-    "refused-3-not-passed-over": lambda: with_blocks(fresh(), lanes=17)[:-4096] + fresh()[-4096:],
+    "refused-3-not-passed-over": lambda: with_blocks(fresh(), lanes=257)[:-4096] + fresh()[-4096:],
+    "refused-3-257-lanes": lambda: with_blocks(fresh(), lanes=257, blocks=317),
+    "refused-3-fewer-sectors-than-lanes": lambda: with_blocks(lanes_of(48), MOST_LANES, sectors=47, blocks=95),
     "refused-3-before-4": lambda: with_blocks(fresh(), sectors=61, flags=1),
     "refused-3-data-wraps": lambda: with_blocks(fresh(), data=2**64 - 4096),
     "refused-3-map-wraps": lambda: with_blocks(fresh(), sectors=1100, blocks=1104, map=2**64 - 4096),
@@ -143,6 +164,7 @@ ARENAS = {
     "refused-6-sector": lambda: half(fresh(), 1, 1, 60, 7, 61, 2),
     "refused-6-old": lambda: half(fresh(), 1, 1, 7, 64, 61, 2),
     "refused-6-new": lambda: half(fresh(), 1, 1, 7, 61, 64, 2),
+    "refused-6-last-of-48": lambda: put(lanes_of(48), MOST_LANES.flog + 64 * 47 + 16, 0, 0, 0, 1),
     "refused-6-before-7": lambda: mapped(half(fresh(), 3, 1, 7, 61, 64, 2), 0, 0xC0000040),
     "refused-6-before-18": lambda: mapped(padded(half(fresh(), 3, 1, 7, 61, 64, 2), 0, 32, 1), 0, 1),
     "refused-7": lambda: mapped(fresh(), 59, 0x40000040),
@@ -154,6 +176,7 @@ ARENAS = {
     "refused-18-pending": lambda: mapped(half(fresh(), 0, 1, 7, 7, 60, 2), 7, 0x00000007),
     "refused-18-padding": lambda: padded(fresh(), 3, 63, 0x80),
     "refused-18-padding-first-byte": lambda: padded(fresh(), 0, 32, 0x01),
+    "refused-18-last-of-48": lambda: put(lanes_of(48), MOST_LANES.flog + 64 * 47 + 60, 1),
     "refused-18-before-8": lambda: mapped(mapped(fresh(), 5, 0xC0000006), 59, 0x00000001),
     "refused-18-padding-before-8": lambda: padded(mapped(fresh(), 5, 0xC0000006), 3, 63, 0x80),
     "refused-18-layout-32": lambda: mapped(half(fresh(), 0, 1, 7, 7, 60, 2, 32), 7, 0xC000003C),

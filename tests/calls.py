@@ -1,10 +1,9 @@
 """The model of the running calls: read, start, step, whole write and what a host may ask of a lane, from the rules' own words.
 
-It shares no code with the library. Each call gives the answer's number and changes arena, handle or buffer in place.
+It shares no code with the library. Each call gives the answer's number and changes arena, table or buffer in place; none changes the handle.
 """
 import struct
 from dataclasses import dataclass, replace
-from typing import NamedTuple
 
 import model
 
@@ -12,67 +11,60 @@ import model
 ZERO, ERROR = 1 << 31, 1 << 30
 DATA_WORD = ZERO | ERROR
 
+# What each call judges, in its order; 16 judges the figures of the handle and -16 the records of the table, and both are answered with 16.
 ORDER = {
-    "read": (16, 9, 10, 7, 18, 15),
-    "start": (16, 11, 12, 9, 13, 7, 18),
-    "write": (16, 11, 12, 9, 10, 13, 7, 18),
-    "step": (16, 11, 14, 10),
-    "lane_record": (16, 11),
-    "next_store": (16, 11, 14),
+    "read": (16, 21, -16, 9, 10, 7, 18, 15),
+    "start": (16, 21, -16, 11, 12, 9, 13, 7, 18),
+    "write": (16, 21, -16, 11, 12, 9, 10, 13, 7, 18),
+    "step": (16, 21, -16, 11, 14, 10),
+    "lane_record": (16, 21, -16, 11),
+    "next_store": (16, 21, -16, 11, 14),
 }
 
-
-class Record(NamedTuple):
-    """A lane's record; block is an idle lane's free block, and the new block of a write in flight."""
-
-    busy: int = 0
-    block: int = 0
-    half: int = 0
-    sequence: int = 0
-    sector: int = 0
-    old: int = 0
-    made: int = 0
+Record = model.Record
 
 
 @dataclass
 class Handle:
-    """What opening gives: the slice's length, the figures, a record for each of 16 lanes, and the layout that it was told."""
+    """What opening gives beside the table's records: the slice's length, the figures, and the layout that it was told."""
 
     length: int
     figures: model.Figures
-    records: list
     layout: int = 0
 
     def copy(self):
-        return Handle(self.length, replace(self.figures), list(self.records), self.layout)
+        return Handle(self.length, replace(self.figures), self.layout)
 
 
 def no_handle():
     """The handle of a refused opening: all zeroes."""
-    return Handle(0, model.Figures(0, 0, 0, 0, 0, 0, 0, 0, 0), [Record()] * model.MAX_LANES)
+    return Handle(0, model.Figures(0, 0, 0, 0, 0, 0, 0, 0, 0))
 
 
 def handle_of(opened, length):
     """The handle that this opening of a slice of that length gives."""
     if opened.number:
         return no_handle()
-    records = [Record(0, lane.free, lane.half, lane.sequence) for lane in opened.lanes]
-    return Handle(length, replace(opened.figures), records + [Record()] * (model.MAX_LANES - len(records)), opened.layout)
+    return Handle(length, replace(opened.figures), opened.layout)
 
 
-def refusal(call, arena, handle, lane=0, sector=0, length=0):
+def refusal(call, arena, handle, table, lane=0, sector=0, length=0):
     """The first number of the call's order that applies, or 0; length is the sector buffer's."""
     for number in ORDER[call]:
-        if applies(number, arena, handle, lane, sector, length):
-            return number
+        if applies(number, arena, handle, table, lane, sector, length):
+            return abs(number)
     return 0
 
 
-def applies(number, arena, handle, lane, sector, length):
-    """Whether this row of the table applies."""
+def applies(number, arena, handle, table, lane, sector, length):
+    """Whether this row of the table of answers applies."""
     f = handle.figures
     if number == 16:
         return bad_handle(handle, len(arena))
+    if number == 21:
+        return len(table) < f.lanes
+    if number == -16:
+        return any(bad_record(f, record) for record in table[: f.lanes])
     if number == 9:
         return sector >= f.sectors
     if number == 10:
@@ -80,11 +72,11 @@ def applies(number, arena, handle, lane, sector, length):
     if number == 11:
         return lane >= f.lanes
     if number == 12:
-        return handle.records[lane].busy
+        return table[lane].busy
     if number == 13:
-        return any(record.busy and record.sector == sector for record in others(handle, lane))
+        return any(record.busy and record.sector == sector for record in others(f, table, lane))
     if number == 14:
-        return not handle.records[lane].busy
+        return not table[lane].busy
     word = map_word(arena, f, sector)
     if number == 7:
         return word >> 30 != 0 and word & 0x3FFFFFFF >= f.blocks
@@ -93,22 +85,17 @@ def applies(number, arena, handle, lane, sector, length):
     return word & DATA_WORD == ERROR
 
 
-def others(handle, lane):
+def others(f, table, lane):
     """The records of all the lanes but this one."""
-    return [record for other, record in enumerate(handle.records[: handle.figures.lanes]) if other != lane]
+    return [record for other, record in enumerate(table[: f.lanes]) if other != lane]
 
 
 def bad_handle(handle, length):
-    """Whether a figure of the handle, its layout or the record of any lane is out of range."""
+    """Whether a figure of the handle or its layout is out of range, or the slice has another length."""
     f = handle.figures
     if not model.layout_allowed(handle.layout):
         return True
-    if handle.length != length or not model.length_allowed(length) or not model.figures_allowed(f, length):
-        return True
-    for record in handle.records[: f.lanes]:
-        if bad_record(f, record):
-            return True
-    return False
+    return handle.length != length or not model.length_allowed(length) or not model.figures_allowed(f, length)
 
 
 def bad_record(f, record):
@@ -133,9 +120,9 @@ def put(arena, offset, value):
     struct.pack_into("<I", arena, offset, value)
 
 
-def read(arena, handle, sector, buffer):
+def read(arena, handle, table, sector, buffer):
     """Fills the buffer with the block's bytes or with zeroes."""
-    number = refusal("read", arena, handle, 0, sector, len(buffer))
+    number = refusal("read", arena, handle, table, 0, sector, len(buffer))
     if number == 0:
         f = handle.figures
         word = map_word(arena, f, sector)
@@ -150,11 +137,11 @@ def started(arena, f, record, sector):
     return Record(1, record.block, record.half, record.sequence, sector, old, 0)
 
 
-def start(arena, handle, lane, sector):
+def start(arena, handle, table, lane, sector):
     """Changes the lane's record and stores nothing."""
-    number = refusal("start", arena, handle, lane, sector)
+    number = refusal("start", arena, handle, table, lane, sector)
     if number == 0:
-        handle.records[lane] = started(arena, handle.figures, handle.records[lane], sector)
+        table[lane] = started(arena, handle.figures, table[lane], sector)
     return number
 
 
@@ -177,48 +164,48 @@ def stepped(f, record):
     return Record(0, old, 1 - half, model.successor(sequence), 0, 0, 0)
 
 
-def step(arena, handle, lane, buffer):
+def step(arena, handle, table, lane, buffer):
     """Makes exactly one store."""
-    number = refusal("step", arena, handle, lane, 0, len(buffer))
+    number = refusal("step", arena, handle, table, lane, 0, len(buffer))
     if number == 0:
-        f, record = handle.figures, handle.records[lane]
+        f, record = handle.figures, table[lane]
         put(arena, *store(f, handle.layout, lane, record, buffer))
-        handle.records[lane] = stepped(f, record)
+        table[lane] = stepped(f, record)
     return number
 
 
-def whole(arena, handle, lane, sector, buffer):
+def whole(arena, handle, table, lane, sector, buffer):
     """The list of (offset, value) that a whole write stores, and the lane's record after it; nothing is changed."""
     f = handle.figures
-    record, stores = started(arena, f, handle.records[lane], sector), []
+    record, stores = started(arena, f, table[lane], sector), []
     while record.busy:
         stores.append(store(f, handle.layout, lane, record, buffer))
         record = stepped(f, record)
     return stores, record
 
 
-def write(arena, handle, lane, sector, buffer):
+def write(arena, handle, table, lane, sector, buffer):
     """A start and all steps in one call, refused before any store."""
-    number = refusal("write", arena, handle, lane, sector, len(buffer))
+    number = refusal("write", arena, handle, table, lane, sector, len(buffer))
     if number == 0:
-        stores, handle.records[lane] = whole(arena, handle, lane, sector, buffer)
+        stores, table[lane] = whole(arena, handle, table, lane, sector, buffer)
         for offset, value in stores:
             put(arena, offset, value)
     return number
 
 
-def lane_record(arena, handle, lane, record):
+def lane_record(arena, handle, table, lane, record):
     """Copies a lane's record into the seven words of a list."""
-    number = refusal("lane_record", arena, handle, lane)
+    number = refusal("lane_record", arena, handle, table, lane)
     if number == 0:
-        record[:] = handle.records[lane]
+        record[:] = table[lane]
     return number
 
 
-def next_store(arena, handle, lane):
+def next_store(arena, handle, table, lane):
     """The number, and with 0 the byte offset of the store that the lane's next step makes."""
-    number = refusal("next_store", arena, handle, lane)
+    number = refusal("next_store", arena, handle, table, lane)
     if number:
         return number, None
     f = handle.figures
-    return 0, store(f, handle.layout, lane, handle.records[lane], bytes(f.size))[0]
+    return 0, store(f, handle.layout, lane, table[lane], bytes(f.size))[0]

@@ -28,7 +28,9 @@ def file_lines(name):
 
 
 def text():
-    lines = made_lines(512, 60, 4) + made_lines(512, 1, 1) + made_lines(4096, 1, 1)
+    lines = []
+    for wanted in ((512, 60, 4), (512, 1, 1), (4096, 1, 1), (512, 256, 256)):
+        lines += made_lines(*wanted)
     for name in ("linux-6.1-512.info", "linux-6.1-520.info", "pmdk-1.12-512.info"):
         lines += file_lines(name)
     return "\n".join(lines) + "\n"

@@ -1,23 +1,27 @@
 """Random histories of calls, each call made by the model and by a library and compared, with the promises of the rules checked at every cut.
 
-A history begins with a made, a random valid or a damaged arena, and goes on with calls through the latest handle, power cuts and openings.
-Beside every fourth runs one of sloppy.py, on an arena that another hand makes sloppy.
+A history begins with a made, a random valid or a damaged arena, and goes on with calls through the latest handle and its table, power cuts and
+openings, which are lent tables of any length. Beside every fourth runs one of sloppy.py, on an arena that another hand makes sloppy.
 Run as a program, with a first seed and a number of histories, it tries the library.
 """
+import collections
 import random
 import sys
 import time
 
 import arenas
+import asides
 import book
 import calls
 import forged
 import layouts
 import library
+import many_lanes
 import model
 import random_arenas
 import sizes
 import sloppy
+import tables
 from pair import Difference, Notes, Pair
 
 AMPLE = 2**15
@@ -30,8 +34,9 @@ class History:
         self.lib, self.rng, self.notes = lib, random.Random(seed), notes
         self.careful, self.must_open = self.rng.random() < 0.8, True
         self.layout = self.rng.choice(random_arenas.LAYOUTS)
-        self.pair = self.row = self.book = self.first_handle = self.after_list = None
-        self.bytes = {}
+        self.pair = self.row = self.book = self.first_table = self.after_list = None
+        # The bytes that each lane's write lends, and some tables of this history.
+        self.bytes, self.tables = {}, collections.deque(maxlen=8)
 
     def run(self):
         """Runs to the end, or raises Difference."""
@@ -68,7 +73,7 @@ class History:
         for _ in range(rng.choice((0, 0, 1, 3))):
             wrong = [size, sectors, lanes, 16, 16]
             for place in rng.sample(range(5), rng.choice((1, 1, 2))):
-                wrong[place] = rng.choice((0, 1, 15, 17, 512, wrong[place] + 1, 4096) + (520, 576, 4160, 2**32 - 1) * (place < 3))
+                wrong[place] = rng.choice((0, 1, 15, 17, 256, 257, 512, wrong[place] + 1, 4096) + (520, 576, 4160, 2**32 - 1) * (place < 3))
             self.pair.make(*wrong[:3], rng.randbytes(wrong[3]), rng.randbytes(wrong[4]))
         self.pair.make(size, sectors, lanes, rng.randbytes(16), rng.randbytes(16))
         self.row = book.Row(self.pair.arena, f)
@@ -81,28 +86,30 @@ class History:
     def open(self):
         """Any cut openings and refused ones, then one with room in the layout that the handle had; whether the arena was accepted."""
         rng, pair = self.rng, self.pair
-        plain = bytearray(pair.arena)
-        expected = model.open_arena(plain, bytearray(AMPLE), self.layout)
-        blocks = 64 if expected.number else expected.figures.blocks
+        plain, table = bytearray(pair.arena), [calls.Record()] * model.MAX_LANES
+        expected = model.open_arena(plain, bytearray(AMPLE), self.layout, table)
         left = self.pending(expected.mended)
         for _ in range(rng.choice((0, 0, 1, 2, 4))):
-            k, layout, before = rng.choice((0, 0, 1, 1, 2, 3, 15, 16, 2**32 - 1)), self.some_layout(), bytes(pair.lent)
-            number, count = pair.cut_open(self.some_room(blocks), layout, k)
+            k, given, before = rng.choice((0, 0, 1, 1, 2, 3, 15, 16, 255, 2**32 - 1)), self.lent(expected, self.some_layout()), bytes(pair.lent)
+            number, count = pair.cut_open(*given[:2], k, given[2])
             self.demand(number != 0 or count == left, "a cut opening counts the lanes pending as found")
-            self.refused_layout(number, layout, before)
+            self.judged(expected, number, given, before)
             left -= min(k, left) if number == 0 else 0
         number = 5
-        while number in (5, 16):
+        while number in (5, 16, 21):
             layout, before = rng.choice((self.layout, self.layout, random_arenas.a_refused_layout(rng))), bytes(pair.lent)
-            number, count = pair.open(self.some_room(blocks), layout)
-            self.refused_layout(number, layout, before)
+            given = self.lent(expected, layout)
+            number, count = pair.open(*given)
+            self.judged(expected, number, given, before)
         self.demand(number == expected.number, "the answer is the same after cut openings")
         self.demand(number == 0 or not self.must_open, "given room to work, the arena opens, and no history leads to 18")
         if number:
             return False
         self.demand(count == left, "opening counts the lanes pending as found")
         self.demand(pair.arena == plain, "the arena ends as without cut openings")
-        self.demand(pair.handle == calls.handle_of(expected, len(plain)), "the lanes end as without cut openings")
+        lanes = expected.figures.lanes
+        self.demand(pair.handle == calls.handle_of(expected, len(plain)), "the handle is as without cut openings")
+        self.demand(pair.table[:lanes] == table[:lanes], "the lanes end as without cut openings")
         self.opened()
         return True
 
@@ -111,13 +118,21 @@ class History:
         others = (random_arenas.other_layout(self.layout),) if self.must_open else ()
         return self.rng.choice((self.layout,) * 4 + (random_arenas.a_refused_layout(self.rng),) + others)
 
-    def refused_layout(self, number, layout, before):
-        """A layout that is neither 16 nor 32 is refused with 16, and whatever a layout is refused with changes nothing."""
-        self.demand((number == 16) == (layout not in random_arenas.LAYOUTS), "16 is the answer to a layout that is not allowed")
-        self.demand(number == 0 or self.pair.lent == before, "a refused opening changes nothing")
+    def lent(self, expected, layout):
+        """The length of a work buffer, a layout, and the records of a table, each enough or not for what the opening finds."""
+        rng, f = self.rng, expected.figures
+        blocks, lanes = (f.blocks, f.lanes) if f else (64, 16)
+        room = rng.choice((blocks, blocks, blocks + 1, blocks + 40, blocks - 1, 0))
+        return room, layout, rng.choice((lanes, lanes, lanes + 1, lanes + 2, lanes + 40, lanes - 1, rng.randrange(lanes), 0))
 
-    def some_room(self, blocks):
-        return self.rng.choice((blocks, blocks, blocks + 1, blocks + 40, blocks - 1, 0))
+    def judged(self, expected, number, given, before):
+        """What an opening is lent is judged in the order 16, 5, 21, and a refusal changes nothing."""
+        room, layout, records = given
+        self.demand((number == 16) == (layout not in random_arenas.LAYOUTS), "16 is the answer to a layout that is not allowed")
+        if number != 16 and expected.number == 0:
+            short = 5 if room < expected.figures.blocks else 21 if records < expected.figures.lanes else 0
+            self.demand(number == short or short == 0 and number not in (5, 21), "5 is answered to a short work buffer, then 21 to a short table")
+        self.demand(number == 0 or self.pair.lent == before, "a refused opening changes nothing")
 
     def pending(self, found):
         """How many lanes are pending: after a cut by the tallies, else as found."""
@@ -130,7 +145,7 @@ class History:
     def opened(self):
         """Checks the promises on the arena just opened, and begins a new list."""
         pair, f = self.pair, self.pair.handle.figures
-        lanes = [(record.block, record.half, record.sequence) for record in pair.handle.records[: f.lanes]]
+        lanes = [(record.block, record.half, record.sequence) for record in pair.table[: f.lanes]]
         self.demand(pair.handle.layout == self.layout, "the handle carries the layout")
         self.demand(book.nothing_sloppy(pair.arena, f, self.layout), "an opened arena passes 18")
         self.demand(book.each_block_once(pair.arena, f, [lane[0] for lane in lanes]), "mapped and free blocks are every block once")
@@ -141,6 +156,7 @@ class History:
             self.demand(pair.arena == self.book.mended(self.after_list), "opening stores just the map word of each pending write")
             self.demand(lanes == self.book.lanes_after_opening(), "the lanes are those that the book gives")
         self.row, self.must_open = row, True
+        self.notes.lanes[f.lanes] += 1
         self.begin_list()
         for sector in self.rng.sample(range(f.sectors), min(f.sectors, 2)):
             self.call("read", 0, sector, f.size)
@@ -148,7 +164,7 @@ class History:
     def after_refusal(self):
         """Calls with the handle of a refused opening: all answer 16."""
         for _ in range(3):
-            number = self.pair.perform(*forged.a_call(self.rng, self.pair.handle))
+            number = self.pair.perform(*forged.a_call(self.rng, self.pair.handle, self.pair.table))
             self.demand(number == 16, "the handle of a refused opening is refused")
 
     # Power cuts.
@@ -159,13 +175,15 @@ class History:
             self.cut_write()
         for write in self.row.flying.values():
             self.notes.cuts[self.row.size, max(0, write.tally - self.row.words)] += 1
+            self.notes.lanes_cut[write.lane] += 1
         self.demand(book.nothing_sloppy(self.pair.arena, self.pair.handle.figures, self.layout), "calls leave an arena that passes 18")
         self.end_list()
         self.pair.drop()
 
     def begin_list(self):
         """Begins a list, all lanes being idle."""
-        self.book, self.first_handle = book.Book(self.pair.arena, self.pair.handle.figures, self.layout), self.pair.handle.copy()
+        self.book, self.first_table = book.Book(self.pair.arena, self.pair.handle.figures, self.layout), list(self.pair.table)
+        self.tables.append(self.first_table)
 
     def end_list(self):
         """Checks the arena after the list; with all writes finished they are made one after another too, in any order."""
@@ -175,10 +193,10 @@ class History:
         self.demand(self.pair.arena == self.after_list, "the arena is the first one with each write's first stores put in")
         writes = self.book.writes
         if len(writes) > 1 and not self.row.flying:
-            alone = self.pair.aside(self.book.first, self.first_handle)
+            alone = self.pair.aside(self.book.first, table=self.first_table)
             for write in self.rng.sample(writes, len(writes)):
                 alone.write(write.lane, write.sector, bytes(write.contents))
-            self.demand(alone.arena == self.pair.arena and alone.handle == self.pair.handle, "finished writes are as if made one after another")
+            self.demand(alone.arena == self.pair.arena and alone.table == self.pair.table, "finished writes are as if made one after another")
 
     def cut_write(self):
         """A whole write of which the cut keeps the first stores only; the library makes it whole on a copy."""
@@ -188,7 +206,7 @@ class History:
             buffer, words = rng.randbytes(self.row.size), self.row.words
             kept = rng.choice((0, rng.randrange(words), words, words + 1, words + 2, words + 3, words + 3, words + 4, words + 4))
             pair.aside().write(*place, buffer)
-            pair.put(calls.whole(pair.arena, pair.handle, *place, buffer)[0][:kept])
+            pair.put(calls.whole(pair.arena, pair.handle, pair.table, *place, buffer)[0][:kept])
             self.note_start(*place)
             self.row.whole(place[0], buffer, kept)
 
@@ -204,6 +222,8 @@ class History:
         number = pair.perform(name, lane, sector, buffer)
         self.demand(by_table is None or number == by_table, "the book answers as the call does")
         self.demand(number != 18, "no history leads to 18")
+        if self.rng.random() < 0.01:
+            self.tables.append(list(pair.table))
         if number == 0 and name == "step":
             self.row.step(lane, buffer)
         elif number == 0 and name == "next_store" and self.book is not None:
@@ -249,7 +269,7 @@ class History:
         lanes = [lane for lane in range(self.pair.handle.figures.lanes) if lane not in self.row.flying]
         taken = {write.sector for write in self.row.flying.values()}
         for _ in range(4 if lanes else 0):
-            lane, sector = self.rng.choice(lanes), self.rng.randrange(len(self.row.sectors))
+            lane, sector = self.rng.choice((self.rng.choice(lanes), lanes[-1])), self.rng.randrange(len(self.row.sectors))
             if sector not in taken and self.keeps_list(lane, sector):
                 return lane, sector
         return None
@@ -257,7 +277,8 @@ class History:
     def work(self):
         """Some writes, each stepped to a tally of its own, in bursts and mixed with all other calls."""
         rng, words = self.rng, self.row.words
-        wanted, aims = rng.choice((0, 1, 1, 2, 2, 3, 5) * 6 + (16,) if words < 1024 else (0, 1, 1)), {}
+        many = () if self.pair.handle.figures.lanes > 16 else (16,)
+        wanted, aims = rng.choice((0, 1, 1, 2, 2, 3, 5) * 6 + many if words < 1024 else (0, 1, 1)), {}
         while wanted or any(self.tally(lane) < aim for lane, aim in aims.items()):
             if wanted and rng.random() < 0.5:
                 wanted -= 1
@@ -296,42 +317,18 @@ class History:
         elif chance < 0.7:
             self.any_call()
         else:
-            self.aside()
+            asides.try_aside(rng, self.pair, self.tables)
 
     def any_call(self):
         """A call with any lane, sector and buffer length; one that would break the list is left out."""
         pair = self.pair
-        name, lane, sector, length = forged.a_call(self.rng, pair.handle)
+        name, lane, sector, length = forged.a_call(self.rng, pair.handle, pair.table)
         if name == "read" or self.book is None:
-            accepted = calls.refusal(name, pair.arena, pair.handle, lane, sector, length) == 0
+            accepted = calls.refusal(name, pair.arena, pair.handle, pair.table, lane, sector, length) == 0
         else:
             accepted = self.book.answer(name, lane, sector, length) == 0
         if not accepted or name not in ("start", "write") or self.keeps_list(lane, sector):
             self.call(name, lane, sector, self.bytes[lane] if accepted and name == "step" else length)
-
-    # Calls on a copy, that are given what is not the latest.
-
-    def aside(self):
-        """Calls with a forged handle, a map word or padding changed by another hand, or a slice of another length."""
-        rng, pair, chance = self.rng, self.pair, self.rng.random()
-        focus, f = None, pair.handle.figures
-        if chance < 0.65:
-            copy = pair.aside(handle=forged.forge(rng, pair.handle))
-        elif chance < 0.92:
-            copy = pair.aside()
-        else:
-            copy = pair.aside(arena=rng.choice((pair.arena + bytes(4096), pair.arena[:-4096], pair.arena[:-1], b"")))
-            copy.handle.length = rng.choice((copy.handle.length, len(copy.arena)))
-            copy.hold(copy.handle)
-        if chance < 0.15 or 0.65 <= chance < 0.92:
-            focus = forged.a_sector(rng, pair.handle) % f.sectors
-            copy.put([(f.map + 4 * focus, forged.a_word(rng, f))])
-            copy.put([(f.flog + 64 * rng.randrange(f.lanes) + rng.randrange(16, 64, 4), rng.getrandbits(32))] * rng.randrange(2))
-        for _ in range(rng.choice((1, 2, 4))):
-            copy.perform(*forged.a_call(rng, copy.handle, focus))
-        busy = [lane for lane, record in enumerate(copy.handle.records) if record.busy]
-        for _ in range(rng.choice((1, 6, 6, 12)) if busy else 0):
-            copy.perform("step", busy[0] if rng.random() < 0.8 else rng.choice(busy), 0, forged.a_length(rng, copy.handle))
 
 
 def named(lib, notes):
@@ -340,8 +337,10 @@ def named(lib, notes):
         pair = Pair(lib, arena, random.Random(len(arena)), notes)
         for room, layout, k in ((128, 32, 0), (128, 16, 0), (63, 16, 1), (128, 16, 1), (64, 16, 16), (64, 32, 16)):
             pair.cut_open(room, layout, k)
+            pair.cut_open(room, layout, k, 3)
         pair = Pair(lib, arena, random.Random(len(arena)), notes)
         for room, layout in ((0, 16), (63, 16), (64, 32), (64, 16), (128, 16), (128, 32)):
+            pair.open(room, layout, 0)
             pair.open(room, layout)
 
 
@@ -350,7 +349,7 @@ def longest(lib, notes):
     for length, number in ((16777216, 0), (16777216 + 4096, 16)):
         pair = Pair(lib, bytes(length), random.Random(length), notes)
         figures = model.Figures(520, 1, 576, 2, 1, 4096, 8192, 12288, length - 4096)
-        pair.hold(calls.Handle(length, figures, [calls.Record(0, 1, 0, 1)] + [calls.Record()] * 15, 32))
+        pair.hold(calls.Handle(length, figures, 32), [calls.Record(0, 1, 0, 1)])
         if pair.start(0, 0) != number:
             pair.fail("not so: the start answers %d" % number)
 
@@ -361,6 +360,8 @@ def run(lib, count, first=1):
     try:
         named(lib, notes)
         longest(lib, notes)
+        tables.try_all(lib, notes)
+        many_lanes.try_all(lib, notes)
         layouts.try_all(lib, notes)
         sizes.try_all(lib, notes)
         sloppy.try_openings(lib, notes)
@@ -375,20 +376,11 @@ def run(lib, count, first=1):
     return notes, seed, None
 
 
-def unseen(notes):
-    """The numbers that no call of a kind gave, of those it can give, and the places where no write was cut."""
-    wanted = {name: (0,) + order for name, order in calls.ORDER.items()}
-    wanted.update(make=(0, 1, 3, 10), open=(*range(9), 16, 18), cut_open=(*range(9), 16, 18))
-    missing = ["%s %d" % (name, number) for name, numbers in wanted.items() for number in numbers if not notes.seen[name, number]]
-    places = [(size, place) for size, _ in random_arenas.PAIRS for place in range(5)]
-    return missing + ["cut of %d bytes, %d words after the data" % place for place in places if not notes.cuts[place]]
-
-
 def main(first=1, count=500):
     began = time.process_time()
     notes, last, fault = run(library.built(), count, first)
     print(dict(sorted(notes.seen.items())), "cuts", dict(sorted(notes.cuts.items())))
-    print("%d calls to history %d, fault: %s, never seen: %s" % (sum(notes.seen.values()), last, fault, unseen(notes)))
+    print("%d calls to history %d, fault: %s, never seen: %s" % (sum(notes.seen.values()), last, fault, notes.unseen()))
     print("%.1f s" % (time.process_time() - began))
     return 1 if fault else 0
 

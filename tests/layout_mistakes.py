@@ -10,8 +10,8 @@ NEWER_WORDS = "sector, old, new, sequence = pair[half]"
 HALF_BY_16 = 'struct.unpack_from("<4I", arena, half_start(f, 16, lane, half))'
 HALVES = "    first, second = half_start(f, layout, lane, 0), half_start(f, layout, lane, 1)\n"
 PADDING = "return arena[first + 16 : second] + arena[second + 16 : first + 64]"
-FOUND = "    opened = judge(arena, len(work), layout)\n"
-OPENED = "    return cut_open(arena, work, layout, MAX_LANES)\n"
+FOUND = "    opened = judge(arena, len(work), layout, len(table))\n"
+OPENED = "    opened = cut_open(arena, work, layout, table, MAX_LANES)\n"
 GIVEN = "return Opened(0, len(pending), f, layout, lanes, stores)"
 COPY_MADE = "    arena[f.copy :] = block\n"
 
@@ -44,9 +44,9 @@ MODEL_MISTAKES = {
     "layout: a refused one has a count": (JUDGED, JUDGED.replace("16)", "16, 1)")),
     "layout: a refused one clears the work buffer": (FOUND, upon(16, "work[:] = bytes(len(work))")),
     "layout: a refused one clears a byte of work": (FOUND, upon(16, "work[:1] = bytes(min(1, len(work)))")),
-    "layout: a refused one mends": (FOUND, upon(16, "opened.stores = judge(arena, len(work), 16).stores")),
-    "layout: the other is tried on 18": (FOUND, upon(18, "opened = judge(arena, len(work), 48 - layout)")),
-    "layout: the other is tried on 6": (FOUND, upon(6, "opened = judge(arena, len(work), 48 - layout)")),
+    "layout: a refused one mends": (FOUND, upon(16, "opened.stores = judge(arena, len(work), 16, len(table)).stores")),
+    "layout: the other is tried on 18": (FOUND, upon(18, "opened = judge(arena, len(work), 48 - layout, len(table))")),
+    "layout: the other is tried on 6": (FOUND, upon(6, "opened = judge(arena, len(work), 48 - layout, len(table))")),
     "layout: cut openings take 16": (FOUND, only_in("k == MAX_LANES")),
     "layout: cut openings do not judge it": (FOUND, only_in("k == MAX_LANES or layout_allowed(layout)")),
     "layout: cut openings with no store do not judge it": (FOUND, only_in("k or layout_allowed(layout)")),
@@ -83,7 +83,7 @@ MODEL_MISTAKES = {
 }
 MODEL_MISTAKES.update(
     ("layout: judged after %d" % number, (JUDGED, "", "        return Opened(%d)\n" % number, "        return Opened(%d)\n" % number + JUDGED))
-    for number in (1, 2, 3, 4, 5, 6, 7, 18, 8)
+    for number in (1, 2, 3, 4, 5, 21, 6, 7, 18, 8)
 )
 MODEL_MISTAKES.update(
     ("layout: %d passes" % layout, (ALLOWED, "return layout in (16, 32, %d)" % layout)) for layout in (0, 1, 8, 15, 17, 24, 31, 33, 48, 64, 2**32 - 1)
@@ -92,13 +92,14 @@ MODEL_MISTAKES.update(
 STORED = "model.half_start(f, layout, lane, record.half) + 4 * part"
 STEPPED = "        put(arena, *store(f, handle.layout, lane, record, buffer))\n"
 WHOLE = "stores.append(store(f, handle.layout, lane, record, buffer))"
-NEXT = "return 0, store(f, handle.layout, lane, handle.records[lane]"
+NEXT = "return 0, store(f, handle.layout, lane, table[lane]"
 HANDLE_JUDGED = "    if not model.layout_allowed(handle.layout):\n        return True\n"
-STARTED = "        handle.records[lane] = started("
-WRITTEN = "        stores, handle.records[lane] = whole("
+JUDGED_BY_CALLS = "return bad_handle(handle, len(arena))"
+STARTED = "        table[lane] = started("
+WRITTEN = "        stores, table[lane] = whole("
 REFUSED_HANDLE = "        return no_handle()\n"
 NUMBERS = "    for number in ORDER[call]:\n"
-APPLIES = "        if applies(number, arena, handle, lane, sector, length):\n            return number\n"
+APPLIES = "        if applies(number, arena, handle, table, lane, sector, length):\n            return abs(number)\n"
 
 
 def stored(layout):
@@ -108,6 +109,11 @@ def stored(layout):
 def unless(condition):
     """A judging of the handle's layout that is left out where this holds."""
     return HANDLE_JUDGED.replace("if not", "if not (%s) and not" % condition)
+
+
+def judged_where(condition):
+    """A judging of the handle's layout in which it is taken for 16 where this does not hold."""
+    return JUDGED_BY_CALLS.replace("(handle,", "(handle if %s else replace(handle, layout=16)," % condition)
 
 
 def upon_16(field):
@@ -139,10 +145,10 @@ CALL_MISTAKES = {
     "layout: a handle with 16 refused": (HANDLE_JUDGED, "    if handle.layout != 32:\n        return True\n"),
     "layout: the handle's low 8 bits judged": (HANDLE_JUDGED, HANDLE_JUDGED.replace("handle.layout", "handle.layout & 0xFF")),
     "layout: the handle's low 16 bits judged": (HANDLE_JUDGED, HANDLE_JUDGED.replace("handle.layout", "handle.layout & 0xFFFF")),
-    "layout: a handle's judged with a lane busy only": (HANDLE_JUDGED, unless("not any(record.busy for record in handle.records[: f.lanes])")),
-    "layout: a handle's judged with lanes idle only": (HANDLE_JUDGED, unless("any(record.busy for record in handle.records[: f.lanes])")),
-    "layout: a handle's judged with a second half next only": (HANDLE_JUDGED, unless("not any(record.half for record in handle.records[: f.lanes])")),
-    "layout: a handle's judged with a first half next only": (HANDLE_JUDGED, unless("all(record.half for record in handle.records[: f.lanes])")),
+    "layout: a handle's judged with a lane busy only": (JUDGED_BY_CALLS, judged_where("any(record.busy for record in table[: f.lanes])")),
+    "layout: a handle's judged with lanes idle only": (JUDGED_BY_CALLS, judged_where("not any(record.busy for record in table[: f.lanes])")),
+    "layout: a handle's judged with a second half next only": (JUDGED_BY_CALLS, judged_where("any(record.half for record in table[: f.lanes])")),
+    "layout: a handle's judged with a first half next only": (JUDGED_BY_CALLS, judged_where("not all(record.half for record in table[: f.lanes])")),
     "layout: a start puts 16 into the handle": (STARTED, "        handle.layout = 16\n" + STARTED),
     "layout: a step puts 16 into the handle": (STEPPED, STEPPED + "        handle.layout = 16\n"),
     "layout: a last step puts 32 into the handle": (STEPPED, STEPPED + "        handle.layout = handle.layout if stepped(f, record).busy else 32\n"),
@@ -171,9 +177,9 @@ def late_judging():
 
 CALL_MISTAKES.update(late_judging())
 
-FOUND_BY_REPLAY = "    found = model.open_arena(arena, work, model.PROGRAM_LAYOUT)\n"
+FOUND_BY_REPLAY = "    found = model.open_arena(arena, work, model.PROGRAM_LAYOUT, table)\n"
 HANDLE_OF_REPLAY = "    return found.number, calls.handle_of(found, len(arena))\n"
-CUT_OPENED = "    if kind == CUT:\n        return opened(arena, work)\n"
+CUT_OPENED = "    if kind == CUT:\n        return opened(arena, work, table)\n"
 IN_32 = FOUND_BY_REPLAY.replace("model.PROGRAM_LAYOUT", "32")
 
 # Mistakes of the replay, by name.

@@ -16,7 +16,7 @@ from pair import Pair
 from random_arenas import LAYOUTS, REFUSED_LAYOUTS, other_layout
 
 AMPLE = 2**15
-LANE_SIZES = ((512, 5, 3), (520, 6, 6), (512, 80, 16), (528, 5, 3), (4096, 3, 2), (4104, 3, 2))
+LANE_SIZES = ((512, 5, 3), (520, 6, 6), (512, 80, 16), (528, 40, 33), (4096, 3, 2), (4104, 3, 2))
 
 # What opening of a made arena answers where one byte of a lane is 0x80 or more, by layout: the first and last byte of a run, and the number.
 MADE_BYTES = {
@@ -85,12 +85,13 @@ def try_refused(lib, notes):
 def demand_untouched(pair, arena, layout, what):
     """Calls of the library alone: what was lent is as it was, and the handle is all zeroes."""
     lent, work, handle = bytearray(arena), bytearray(pair.rng.randbytes(70)), bytearray(pair.rng.randbytes(library.HANDLE_BYTES))
-    before = bytes(work)
-    demand(pair, pair.lib.open(lent, work, layout, handle) == (16, 0), what + " is answered with 16")
+    table = bytearray(forged.rubbish(pair.rng, pair.rng.choice((0, 3, 4, 5))))
+    before, records = bytes(work), bytes(table)
+    demand(pair, pair.lib.open(lent, work, layout, table, handle) == (16, 0), what + " is answered with 16")
     demand(pair, not any(handle), what + " gives no handle")
     for k in (0, 1, 16):
-        demand(pair, pair.lib.cut_open(lent, work, layout, k) == (16, 0), what + " is answered with 16 by a cut opening")
-    demand(pair, work == before and lent == arena, what + " leaves the work buffer and the arena")
+        demand(pair, pair.lib.cut_open(lent, work, layout, table, k) == (16, 0), what + " is answered with 16 by a cut opening")
+    demand(pair, work == before and lent == arena and table == records, what + " leaves the work buffer, the arena and the table")
 
 
 # Each byte of a lane.
@@ -223,8 +224,7 @@ def try_handles(lib, notes):
             demand(pair, steps is None or pair.start(1, 7) == 0, "a write starts")
             for _ in range(steps or 0):
                 pair.step(1, bytes(512))
-            first_next = pair.aside()
-            first_next.hold(forged.with_all_records(pair.handle, half=0))
+            first_next = pair.aside(table=forged.with_all_records(pair.table, half=0))
             for wrong in REFUSED_LAYOUTS:
                 try_refused_handle(pair, wrong)
                 try_refused_handle(first_next, wrong)
@@ -238,16 +238,16 @@ def try_refused_handle(pair, wrong):
     handle.layout = wrong
     copy = pair.aside(handle=handle)
     copy.put([(arenas.MAP + 4 * sector, word) for sector, word in WORDS.items()])
-    kept = bytes(copy.lent), bytes(copy.lent_handle)
+    kept = bytes(copy.lent), bytes(copy.lent_handle), bytes(copy.lent_table)
     for name, lane, sector, length, due in EVERY_CALL:
-        if wrong == 0 and pair.handle.records[1].busy:
+        if wrong == 0 and pair.table[1].busy:
             live = pair.aside(copy.arena)
             demand(live, live.perform(name, lane, sector, length) == due, "a %s is answered with %d" % (name, due))
         demand(copy, copy.perform(name, lane, sector, length) == 16, "a %s by a handle with layout %d is answered with 16" % (name, wrong))
     _, before, after = copy.read(5, 512)
     demand(copy, before == after, "a refused read leaves the buffer")
     demand(copy, copy.lane_record(0) == copy.next_store(1) == (16, None), "a refusal leaves the record and the offset")
-    demand(copy, (copy.lent, copy.lent_handle) == kept, "a refused call leaves the arena and the handle")
+    demand(copy, (copy.lent, copy.lent_handle, copy.lent_table) == kept, "a refused call leaves the arena, the handle and the table")
 
 
 def try_exchanged(pair, layout, made):
@@ -307,7 +307,7 @@ def try_write(pair, block, places, values):
         calls.put(before := bytearray(pair.lent), place, value)
         pair.step(0, buffer)
         demand(pair, pair.lent == before, "store %d is of %d at %d" % (k, value, place))
-    demand(pair, (pair.lent, pair.lent_handle) == (whole.lent, whole.lent_handle), "a whole write is its start and steps")
+    demand(pair, (pair.lent, pair.lent_table) == (whole.lent, whole.lent_table), "a whole write is its start and steps")
 
 
 def try_all(lib, notes):

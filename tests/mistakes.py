@@ -1,8 +1,8 @@
 """The model with one deliberate mistake, in the place of a library, to see that the histories, the runs and the logs find it.
 
 A mistake is an edit of the model's text. Run as a program it says how many histories each takes, and fails if one is not found.
-The mistakes of PROMISED, those of rule 18, of the layout, of the sizes and most of the replay are put into both sides too, where only the promises of
-the rules can find them.
+The mistakes of PROMISED, those of rule 18, of the layout, of the sizes, of the table and most of the replay are put into both sides too, where only
+the promises of the rules can find them.
 """
 import contextlib
 import pathlib
@@ -19,6 +19,7 @@ import model
 import replay
 import size_mistakes
 import sloppy_mistakes
+import table_mistakes
 
 HERE = pathlib.Path(__file__).resolve().parent
 LIMIT = 600
@@ -28,15 +29,16 @@ TALLY = "k, words = record.made, f.size // 4"
 DATA = "record.block + 4 * k, int.from_bytes(buffer[4 * k : 4 * k + 4]"
 LAST = "Record(0, old, 1 - half, model.successor(sequence), 0, 0, 0)"
 OLD = "old = model.block_of(sector, map_word(arena, f, sector))"
-START = "        handle.records[lane] = started("
-STEP = "        handle.records[lane] = stepped(f, record)\n"
+START = "        table[lane] = started("
+STEP = "        table[lane] = stepped(f, record)\n"
 SECOND_STORE = "        put(arena, *store(f, handle.layout, lane, stepped(f, record), buffer))\n"
-STEP_RECORD = "        f, record = handle.figures, handle.records[lane]\n"
+STEP_RECORD = "        f, record = handle.figures, table[lane]\n"
 FIELDS = "    busy, block, half, sequence, sector, old, made = record\n    return (\n"
 IDLE_FIELDS = "    sector, old, made = (sector, old, made) if busy else (0, 0, 0)\n"
-WRITE = "        stores, handle.records[lane] = whole(arena, handle, lane, sector, buffer)\n"
-READ = 'number = refusal("read", arena, handle, 0, sector, len(buffer))\n'
-LANES_JUDGED = "for record in handle.records[: f.lanes]:"
+WRITE = "        stores, table[lane] = whole(arena, handle, table, lane, sector, buffer)\n"
+READ = 'number = refusal("read", arena, handle, table, 0, sector, len(buffer))\n'
+LANES_JUDGED = "any(bad_record(f, record) for record in table[: f.lanes])"
+STEP_ORDER = '"step": %s' % (calls.ORDER["step"],)
 
 # A mistake's name, the text that it takes the place of, and the text it has instead.
 CALL_MISTAKES = {
@@ -62,8 +64,8 @@ CALL_MISTAKES = {
     "start takes low bits of flags 00": (OLD, "old = map_word(arena, f, sector) & 0x3FFFFFFF"),
     "start stores": (START, "        put(arena, handle.figures.flog, 0)\n" + START),
     "map read again at a step": (STEP_RECORD, STEP_RECORD + "        record = started(arena, f, record, record.sector)._replace(made=record.made)\n"),
-    "7 judged at a step": ('"step": (16, 11, 14, 10)', '"step": (16, 11, 14, 10, 7)'),
-    "any buffer at the last steps": ("return length != f.size", "return length != f.size and handle.records[min(lane, 15)].made < f.size // 4"),
+    "7 judged at a step": (STEP_ORDER, STEP_ORDER.replace(")", ", 7)")),
+    "any buffer at the last steps": ("return length != f.size", "return length != f.size and table[lane].made < f.size // 4"),
     "a longer buffer will do": ("return length != f.size", "return length < f.size"),
     "a refused write stores": (WRITE, WRITE + "    if number == 13:\n        put(arena, handle.figures.data, 0)\n    if number == 0:\n"),
     "a bad sector is read as zeroes": (READ, READ + "    if number == 15:\n        buffer[:] = bytes(len(buffer))\n"),
@@ -75,13 +77,13 @@ CALL_MISTAKES = {
     "7 judges 29 bits": ("word & 0x3FFFFFFF >= f.blocks", "word & 0x1FFFFFFF >= f.blocks"),
     "7 judges 16 bits": ("word & 0x3FFFFFFF >= f.blocks", "word & 0xFFFF >= f.blocks"),
     "9 lets the sector E pass": ("return sector >= f.sectors", "return sector > f.sectors"),
-    "11 lets a lane past the last pass": ("return lane >= f.lanes", "return lane > max(f.lanes, 15)"),
+    "11 lets a lane past the last pass": ("return lane >= f.lanes", "return lane > f.lanes or lane >= len(table)"),
     "13 on idle records": ("any(record.busy and record.sector == sector", "any(record.sector == sector"),
-    "13 on records past the lanes": ("enumerate(handle.records[: handle.figures.lanes]) if", "enumerate(handle.records) if"),
+    "13 on records past the lanes": ("enumerate(table[: f.lanes]) if", "enumerate(table) if"),
     "13 not judged": ("any(record.busy and record.sector == sector", "any(False"),
-    "16 judges busy records only": ("        if bad_record(f, record):", "        if record.busy and bad_record(f, record):"),
-    "16 judges the first record only": (LANES_JUDGED, "for record in handle.records[:1]:"),
-    "16 judges records past the lanes": (LANES_JUDGED, "for record in [r for r in handle.records if r != Record()]:"),
+    "16 judges busy records only": (LANES_JUDGED, LANES_JUDGED.replace("any(bad", "any(record.busy and bad")),
+    "16 judges the first record only": (LANES_JUDGED, LANES_JUDGED.replace("table[: f.lanes]", "table[:1]")),
+    "16 judges records past the lanes": (LANES_JUDGED, LANES_JUDGED.replace("table[: f.lanes]", "table")),
     "16 without the slice's length": ("handle.length != length or", "False or"),
     "16 without the allowed length": ("not model.length_allowed(length) or", "False or"),
     "16 without the record's block": ("block >= f.blocks\n", "False\n"),
@@ -94,11 +96,10 @@ CALL_MISTAKES = {
     "16 lets S/4 + 5 stores pass": ("or made >= f.size // 4 + 5", "or made > f.size // 4 + 5"),
     "16 without the record's busy word": ("or busy > 1", ""),
     "16 passes over fields of idle records": (FIELDS, FIELDS.replace("    return", IDLE_FIELDS + "    return")),
-    "opening leaves the lane's old": ("lane.half, lane.sequence) for", "lane.half, lane.sequence, 0, lane.free) for"),
 }
 
 STARTS_MULTIPLES = "and all(start % 4096 == 0 for start in starts)"
-FREE = ("Lane(old, 1 - half", "Lane(old if block_of(at, mended[at]) == new else new, 1 - half")
+FREE = ("Record(0, old, 1 - half", "Record(0, old if block_of(at, mended[at]) == new else new, 1 - half")
 STORES = "    for offset, value in opened.stores[:k]:"
 SIZES_JUDGED = "    if not sizes_allowed(size, sectors, lanes):\n        return 3\n"
 LENGTH_JUDGED = "    if len(arena) != made_figures(size, sectors, lanes).copy + 4096:\n        return 1\n"
@@ -111,7 +112,7 @@ MODEL_MISTAKES = {
     "figures without the sector size": ("return size in SECTOR_SIZES and", "return size % 4 == 0 and"),
     "figures without the blocks": ("and f.blocks == f.sectors + f.lanes", ""),
     "figures without sectors at least lanes": ("and sectors >= lanes", ""),
-    "figures with 17 lanes": ("1 <= lanes <= MAX_LANES", "1 <= lanes <= MAX_LANES + 16"),
+    "figures with more lanes": ("1 <= lanes <= MAX_LANES", "1 <= lanes"),
     "figures with no lanes": ("1 <= lanes <= MAX_LANES", "lanes <= MAX_LANES"),
     "figures with starts anywhere": (STARTS_MULTIPLES, ""),
     "figures with the data start anywhere": (STARTS_MULTIPLES, STARTS_MULTIPLES.replace("starts)", "starts[1:])")),
@@ -128,14 +129,15 @@ MODEL_MISTAKES = {
     "an older sequence of 4 passes": ("if first in (1, 2, 3) and second == 0:", "if first in (1, 2, 3) and second in (0, 4):"),
     "pending if the map lacks new": ("if block_of(h[1], words[h[1]]) == h[2]]", "if block_of(h[1], words[h[1]]) != h[3]]"),
     "new is free where the map lacks it": (*FREE, "half, _, old, _, seq", "half, at, old, new, seq"),
+    "opening leaves the lane's old": ("successor(sequence)) for", "successor(sequence), 0, old) for"),
     "count of stores made": (STORES, "    opened.mended = min(k, opened.mended)\n" + STORES),
     "count of all lanes": ("return Opened(0, len(pending), f", "return Opened(0, f.lanes, f"),
     "mended in falling order": (STORES, STORES.replace("[:k]", "[::-1][:k]")),
     "cut opening makes one store at least": (STORES, STORES.replace("[:k]", "[: k or 1]")),
     "cut opening makes all stores": (STORES, STORES.replace("[:k]", "")),
     "mended to a zeroed sector": ("0xC0000000 + halves[lane][3]) for lane in pending]", "0x80000000 + halves[lane][3]) for lane in pending]"),
-    "the work buffer is kept on 6": ("if opened.number in (0, 6, 7, 18, 8):", "if opened.number in (0, 7, 18, 8):"),
-    "the work buffer is kept on 8": ("if opened.number in (0, 6, 7, 18, 8):", "if opened.number in (0, 6, 7, 18):"),
+    "the work buffer is kept on 6": ("if opened.number in (0, 21, 6, 7, 18, 8):", "if opened.number in (0, 21, 7, 18, 8):"),
+    "the work buffer is kept on 8": ("if opened.number in (0, 21, 6, 7, 18, 8):", "if opened.number in (0, 21, 6, 7, 18):"),
     "the whole work buffer is cleared": ("work[:blocks] = bytes(blocks)", "work[:] = bytes(len(work))"),
     "opening: 7 judges 29 bits": ("word & 0x3FFFFFFF >= f.blocks for", "word & 0x1FFFFFFF >= f.blocks for"),
     "a work buffer of I - 1 will do": ("if room < f.blocks:", "if room < f.blocks - 1:"),
@@ -159,18 +161,18 @@ CHECKSUM_MISTAKES = {
     "a block of 1,022 words": ("return fletcher64(words)", "return fletcher64(words[:1022])"),
 }
 
-RUN = "        answer, handle = ran(arena, work, handle, len(replayed.answers), *found)\n"
+RUN = "        answer, handle = ran(arena, work, handle, table, len(replayed.answers), *found)\n"
 BEGUN = "    replayed, at = Replayed(first), 0\n"
 RAN = "        replayed.answers.append(answer)\n"
-OPENED = "    first, handle = opened(arena, work)\n"
+OPENED = "    first, handle = opened(arena, work, table)\n"
 LONG = "    if len(log) > LOG_LIMIT:\n"
 STOPPED = "            replayed.stopped = at\n"
-LENT = "    return calls.step(arena, handle, lane, lent(index, handle.figures.size)), handle\n"
-BEGINS = "    if not any(record.made for record in handle.records[lane : lane + 1]):\n"
+LENT = "    return calls.step(arena, handle, table, lane, lent(index, handle.figures.size)), handle\n"
+BEGINS = "    if not any(record.made for record in table[lane : lane + 1]):\n"
 FIRST_LENT = "    begun = handle.__dict__.setdefault('begun', {})\n" + BEGINS + "        begun[lane] = index\n"
 WRONG = "    if LENGTHS.get(kind) != length or len(log) - at < length:\n"
 FIT = "    answers[:fit] = bytes(replayed.answers[:fit])\n"
-CUT_OPENED = "    if kind == CUT:\n        return opened(arena, work)\n"
+CUT_OPENED = "    if kind == CUT:\n        return opened(arena, work, table)\n"
 
 # The same, of the replay: the kept logs and the random ones find them.
 REPLAY_MISTAKES = {
@@ -202,8 +204,8 @@ REPLAY_MISTAKES = {
     "the lane read as a byte": ("    return kind, lane, sector\n", "    return kind, lane & 255, sector\n"),
     "the sector read as two bytes": ("    return kind, lane, sector\n", "    return kind, lane, sector & 65535\n"),
     "an unknown kind is a cut": (WRONG, "    kind = kind if kind in LENGTHS else CUT\n" + WRONG),
-    "a cut does not open": (CUT_OPENED, CUT_OPENED.replace("opened(arena, work)", "0, handle")),
-    "a cut does not mend": (CUT_OPENED, CUT_OPENED.replace("opened(arena, work)", "opened(bytearray(arena), work)")),
+    "a cut does not open": (CUT_OPENED, CUT_OPENED.replace("opened(arena, work, table)", "0, handle")),
+    "a cut does not mend": (CUT_OPENED, CUT_OPENED.replace("arena", "bytearray(arena)")),
     "what ran before does not stay": (OPENED, OPENED + "    kept = bytes(arena)\n", STOPPED, STOPPED + "            arena[:] = kept\n"),
     "answers past a short buffer": (FIT, "    answers[: len(replayed.answers)] = bytes(replayed.answers)\n"),
     "a short buffer gets no answer": (FIT, "    if fit == len(replayed.answers):\n    " + FIT),
@@ -211,7 +213,7 @@ REPLAY_MISTAKES = {
     "the rest of the answers is cleared": (FIT, FIT + "    answers[fit:] = bytes(len(answers) - fit)\n"),
 }
 
-REPLAYED = {**REPLAY_MISTAKES, **layout_mistakes.REPLAY_MISTAKES, **size_mistakes.REPLAY_MISTAKES}
+REPLAYED = {**REPLAY_MISTAKES, **layout_mistakes.REPLAY_MISTAKES, **size_mistakes.REPLAY_MISTAKES, **table_mistakes.REPLAY_MISTAKES}
 
 # Mistakes that the promises find with no library to compare with.
 PROMISED = """sequence before new, map word before the flog, flog before the data, data words in falling order, data into the old block,
@@ -231,8 +233,9 @@ ONLY_COMPARED = (
 
 # 13 never meets 9: a write in flight to a sector past the last is 16; for one word 7, 18 and 15 shut each other out.
 SAME = {("start", 9, 13), ("read", 7, 18), ("read", 18, 15), ("start", 7, 18), ("write", 7, 18)}
-# Where 12 comes before 11 it must bear any lane.
-ANY_LANE = ("return handle.records[lane].busy", "return lane < 16 and handle.records[lane].busy")
+# Where 12 or 14 comes before 11 it must bear any lane.
+ANY_LANE = ("return table[lane].busy", "return lane < len(table) and table[lane].busy")
+ANY_LANE += ("return not table[lane].busy", "return lane >= len(table) or not table[lane].busy")
 
 
 def swapped_orders():
@@ -335,7 +338,7 @@ def tried_replays(names):
 def main(words):
     """Tries every mistake, or those whose names have one of these words."""
     of_calls, of_model = {**CALL_MISTAKES, **swapped_orders()}, dict(MODEL_MISTAKES)
-    for others in (sloppy_mistakes, layout_mistakes, size_mistakes):
+    for others in (sloppy_mistakes, layout_mistakes, size_mistakes, table_mistakes):
         of_calls.update(others.CALL_MISTAKES)
         of_model.update(others.MODEL_MISTAKES)
     edits = [("calls", name, edit) for name, edit in of_calls.items()] + [("model", name, edit) for name, edit in of_model.items()]
@@ -346,7 +349,7 @@ def main(words):
         began = time.process_time()
         needed, fault = histories_needed(mistaken_library(module, edit))
         alone = "-"
-        if name in PROMISED or name.startswith(("18: ", "layout: ", "size: ")):
+        if name in PROMISED or name.startswith(("18: ", "layout: ", "size: ", "table: ", "lanes: ", "busy: ", "record: ")):
             with on_both_sides(module, edit) as lib:
                 alone, fault = histories_needed(lib)
         missed += [name] if None in (needed, alone) else []

@@ -1,15 +1,16 @@
 """An independent model of the arena format: checksums, making, opening and the report.
 
 It is written from the rules alone and shares no code with the library; tests compare the two byte by byte.
-Arenas are bytearrays; refusals are their numbers.
+Arenas are bytearrays, tables are lists of records; refusals are their numbers.
 """
 import functools
 import struct
 from dataclasses import dataclass, field
+from typing import NamedTuple
 
 SIGNATURE = b"BTT_ARENA_INFO\0\0"
 BLOCK = 4096
-MAX_LANES = 16
+MAX_LANES = 256
 REPORT_LIMIT = 65536
 # The bytes of a sector that are allowed.
 SECTOR_SIZES = (512, 520, 528, 4096, 4104)
@@ -188,15 +189,22 @@ def sloppy(arena, f, layout, words):
     return any(sloppy_word(word) for word in words) or any(any(padding(arena, f, layout, lane)) for lane in range(f.lanes))
 
 
-@dataclass
-class Lane:
-    free: int
-    half: int
-    sequence: int
+class Record(NamedTuple):
+    """A lane's record in a table; block is an idle lane's free block, and the new block of a write in flight."""
+
+    busy: int = 0
+    block: int = 0
+    half: int = 0
+    sequence: int = 0
+    sector: int = 0
+    old: int = 0
+    made: int = 0
 
 
 @dataclass
 class Opened:
+    """What an opening answers and counts; if it is accepted, the record of each lane and the stores as (offset, value)."""
+
     number: int
     mended: int = 0
     figures: Figures = None
@@ -220,8 +228,8 @@ def newer_halves(arena, f, layout):
     return halves
 
 
-def judge(arena, room, layout):
-    """Judges an arena in a layout and stores nothing; stores are (offset, value)."""
+def judge(arena, room, layout, records):
+    """Judges an arena in a layout, lent so many bytes to work in and a table of so many records, and stores nothing."""
     if not layout_allowed(layout):
         return Opened(16)
     if not length_allowed(len(arena)):
@@ -236,6 +244,8 @@ def judge(arena, room, layout):
         return Opened(4)
     if room < f.blocks:
         return Opened(5)
+    if records < f.lanes:
+        return Opened(21)
     halves = newer_halves(arena, f, layout)
     if halves is None:
         return Opened(6)
@@ -251,15 +261,15 @@ def judge(arena, room, layout):
     owned = [block_of(s, w) for s, w in enumerate(mended)] + [h[2] for h in halves]
     if len({halves[lane][1] for lane in pending}) != len(pending) or sorted(owned) != list(range(f.blocks)):
         return Opened(8)
-    lanes = [Lane(old, 1 - half, successor(sequence)) for half, _, old, _, sequence in halves]
+    lanes = [Record(0, old, 1 - half, successor(sequence)) for half, _, old, _, sequence in halves]
     stores = [(f.map + 4 * halves[lane][1], 0xC0000000 + halves[lane][3]) for lane in pending]
     return Opened(0, len(pending), f, layout, lanes, stores)
 
 
-def cut_open(arena, work, layout, k):
-    """Opens in place, making at most k stores; work is cleared as the rules say."""
-    opened = judge(arena, len(work), layout)
-    if opened.number in (0, 6, 7, 18, 8):
+def cut_open(arena, work, layout, table, k):
+    """Opens in place, making at most k stores; work is cleared as the rules say, and the table is only measured."""
+    opened = judge(arena, len(work), layout, len(table))
+    if opened.number in (0, 21, 6, 7, 18, 8):
         blocks = decode(counting_block(arena))[0].blocks
         work[:blocks] = bytes(blocks)
     for offset, value in opened.stores[:k]:
@@ -267,18 +277,21 @@ def cut_open(arena, work, layout, k):
     return opened
 
 
-def open_arena(arena, work, layout):
-    return cut_open(arena, work, layout, MAX_LANES)
+def open_arena(arena, work, layout, table):
+    """Opens in place; an accepted opening sets the records of the lanes and leaves those past them."""
+    opened = cut_open(arena, work, layout, table, MAX_LANES)
+    table[: len(opened.lanes)] = opened.lanes
+    return opened
 
 
 def report(data):
     """The report on the bytes of an arena."""
     if len(data) > REPORT_LIMIT:
         return "refused 1\n"
-    opened = open_arena(bytearray(data), bytearray(128), PROGRAM_LAYOUT)
+    opened = open_arena(bytearray(data), bytearray(128), PROGRAM_LAYOUT, [Record()] * MAX_LANES)
     if opened.number:
         return "refused %d\n" % opened.number
     f = opened.figures
     lines = ["sector bytes %d" % f.size, "sectors %d" % f.sectors, "lanes %d" % f.lanes, "mended %d" % opened.mended]
-    lines += ["lane %d free %d next %d" % (i, lane.free, lane.sequence) for i, lane in enumerate(opened.lanes)]
+    lines += ["lane %d free %d next %d" % (i, lane.block, lane.sequence) for i, lane in enumerate(opened.lanes)]
     return "\n".join(lines + ["opened"]) + "\n"

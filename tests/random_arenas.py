@@ -8,10 +8,12 @@ import model
 # Sector size, sectors and lanes; all of these arenas are short enough for the report.
 SIZES = ((512, 1, 1), (512, 3, 2), (512, 20, 4), (512, 60, 4), (512, 80, 16), (4096, 3, 2))
 SIZES += ((520, 1, 1), (520, 13, 2), (520, 60, 4), (528, 3, 2), (528, 20, 4), (528, 60, 16), (4104, 1, 1), (4104, 3, 2))
+SIZES += ((512, 48, 48), (512, 20, 17), (520, 40, 33))
 # Sectors and lanes of the arenas that histories begin with.
 SMALL = ((1, 1), (2, 1), (3, 2), (5, 3), (6, 6), (20, 4))
 WIDE = ((60, 4), (30, 16), (80, 16))
 FEW = ((1, 1), (3, 2), (5, 3))
+MANY = ((17, 17), (40, 17), (64, 64), (255, 255), (256, 256), (270, 256))
 # The pairs of sector size and internal size that are allowed, and numbers that a pair may be wrong by.
 PAIRS = tuple(book.BLOCK_BYTES.items())
 PAIR_NUMBERS = (0, 256, 512, 516, 520, 524, 528, 544, 576, 640, 1024, 4096, 4100, 4104, 4112, 4160, 4224, 4608, 8192)
@@ -24,11 +26,11 @@ REFUSED_LAYOUTS += (16 + 2**8, 16 + 2**16, 32 + 2**16, 32 + 2**31)
 
 
 def small_sizes(rng):
-    """Sector size, sectors and lanes of an arena that a history begins with: S is 4,096 or 4,104 in one of twelve."""
+    """Sector size, sectors and lanes of an arena that a history begins with: S is 4,096 or 4,104 in one of twelve, and some have 17 to 256 lanes."""
     chance = rng.random()
     if chance < 0.08:
         return rng.choice((4096, 4104)), *rng.choice(FEW)
-    return rng.choice((512, 520, 528)), *rng.choice(WIDE if chance < 0.35 else SMALL)
+    return rng.choice((512, 520, 528)), *rng.choice(WIDE if chance < 0.33 else MANY if chance < 0.36 else SMALL)
 
 
 def a_pair(rng):

@@ -24,8 +24,9 @@ def an_arena(rng):
 def a_lane(rng, f):
     """A lane, seldom one that is not there."""
     if rng.random() < 0.04:
-        return rng.choice((f.lanes, 16, 255, 256, 65535, f.lanes - 1 + 256)) % 65536
-    return rng.randrange(min(f.lanes, 16) or 1)
+        return rng.choice((f.lanes, 16, 255, 256, 257, 65535, f.lanes - 1 + 256)) % 65536
+    lanes = min(f.lanes, model.MAX_LANES) or 1
+    return rng.choice((rng.randrange(lanes), rng.randrange(min(lanes, 4)), lanes - 1))
 
 
 def a_sector(rng, f):

@@ -96,14 +96,14 @@ def last_writes(rows, answers, words, notes):
 
 def sectors(lib, image):
     """What the library reads of each sector once it has opened the arena: number and bytes."""
-    arena, handle = bytearray(image), bytearray(library.HANDLE_BYTES)
-    number, _ = lib.open(arena, bytearray(AMPLE), model.PROGRAM_LAYOUT, handle)
+    arena, handle, table = bytearray(image), bytearray(library.HANDLE_BYTES), bytearray(library.RECORD_BYTES * model.MAX_LANES)
+    number, _ = lib.open(arena, bytearray(AMPLE), model.PROGRAM_LAYOUT, table, handle)
     if number:
         raise Difference("the arena is refused with %d" % number)
     f, row = library.handle_from(handle).figures, []
     for sector in range(f.sectors):
         buffer = bytearray(f.size)
-        row.append((lib.read(arena, handle, sector, buffer), bytes(buffer)))
+        row.append((lib.read(arena, handle, table, sector, buffer), bytes(buffer)))
     return row
 
 
@@ -130,7 +130,7 @@ def note(notes, log, replayed):
 
 def room_needed(image):
     """The least work buffer that 5 allows; of an arena that is refused before 5 any."""
-    if model.judge(image, 0, model.PROGRAM_LAYOUT).number != 5:
+    if model.judge(image, 0, model.PROGRAM_LAYOUT, model.MAX_LANES).number != 5:
         return 64
     return model.decode(model.counting_block(image))[0].blocks
 
@@ -138,6 +138,8 @@ def room_needed(image):
 def tried(lib, image, log, rng, notes):
     """A log replayed with ample buffers, then with others: short, exact and long ones; gives the ample replay."""
     replayed, arena = compared(lib, image, log, rng.randbytes(AMPLE), rng.randbytes(2048))
+    if 21 in (replayed.first, *replayed.answers):
+        raise Difference("not so: the replay's own table suffices for every arena")
     note(notes, log, replayed)
     if replayed.first == 0:
         check_words(lib, image, arena, log, replayed, notes)
@@ -154,14 +156,24 @@ def try_kept(lib, notes):
     """The kept logs on their arenas, and a few of them on all arenas."""
     built, rng = arenas.all_arenas(), random.Random(1)
     for name, kept in logs.kept_logs().items():
+        if runlog.text(built[kept.arena], kept.log) != kept.output:
+            raise Difference("%s: not so: the model gives the kept output" % name)
         images = built.values() if name in EVERYWHERE else [built[kept.arena]]
         for image in images:
             try:
                 tried(lib, image, kept.log, rng, notes)
             except Difference as fault:
                 raise Difference("%s: %s" % (name, fault)) from fault
-        if runlog.text(built[kept.arena], kept.log) != kept.output:
-            raise Difference("%s: not so: the model gives the kept output" % name)
+
+
+def try_widest(lib, notes):
+    """Logs on the arena of 256 lanes: the last lane, some before it, all of them started, and lanes that are not there."""
+    image, rng = bytes(arenas.lanes_of(256)), random.Random(256)
+    write = logs.start(255, 7) + logs.step(255) * 132
+    started = b"".join(logs.start(lane, 255 - lane) + logs.step(lane) for lane in range(256))
+    for log in (write, write + logs.cut(), write + logs.step(255), started + logs.cut() + logs.start(254, 0), logs.start(256, 0) + write):
+        tried(lib, image, log, rng, notes)
+    tried(lib, bytes(arenas.all_pending(256)), write + logs.cut(), rng, notes)
 
 
 def run(lib, count, first=1):
@@ -169,6 +181,7 @@ def run(lib, count, first=1):
     notes, seed = Notes(), 0
     try:
         try_kept(lib, notes)
+        try_widest(lib, notes)
         for seed in range(first, first + count):
             rng = random.Random(seed)
             image, f = random_logs.an_arena(rng)

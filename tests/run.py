@@ -1,9 +1,10 @@
 """Compares what the programs and the library do with the model.
 
-The report is run on every arena of tests/arenas, on random ones and on those of sloppy.py, layouts.py and sizes.py; what `cases`, `runs` and `replay`
-must write (rt runs them) has to be what the model works out; the checksums of random runs of words and of changed info blocks are the
-model's; the library goes through random histories of calls, call by call beside the model; the kept run logs of tests/logs and random ones
-are replayed by the library and the program.
+The report is run on every arena of tests/arenas, on random ones and on those of sloppy.py, layouts.py, sizes.py and many_lanes.py; what `cases`
+and `replay` must write (rt runs them) has to be what the model works out; the library makes the calls of cases 9 and 10 with the paper's stores and
+answers; the checksums of random runs of words and of changed info blocks are the model's; the library goes through random histories of calls, call
+by call beside the model; it reads and writes the arenas of the Linux driver; the kept run logs of tests/logs and random ones are replayed by the
+library and the program.
 """
 import collections
 import pathlib
@@ -17,6 +18,8 @@ import checksums
 import histories
 import layouts
 import library
+import linux
+import many_lanes
 import model
 import random_arenas
 import replay
@@ -53,7 +56,7 @@ def check_report(arena):
 
 def answer_of(arena):
     """The number that the model answers for these bytes."""
-    return model.judge(bytearray(arena), 128, model.PROGRAM_LAYOUT).number if len(arena) <= model.REPORT_LIMIT else 1
+    return model.judge(bytearray(arena), 128, model.PROGRAM_LAYOUT, model.MAX_LANES).number if len(arena) <= model.REPORT_LIMIT else 1
 
 
 def check_sloppy():
@@ -93,12 +96,12 @@ def check_sizes():
     return wrong
 
 
-def check_running_cases():
-    """What is wrong with the text of case 9, its twin and case 10, as lines."""
-    written = running_cases.text()
-    wrong = ["runs: the paper has %r" % line for line in running_cases.not_as_the_paper()]
-    if (running_cases.RUNS / "stdout").read_text() != written:
-        wrong.append("runs: the stored text is not the model's")
+def check_lanes():
+    """What is wrong with the reports on the arenas of many_lanes.py, which have up to 48 lanes, as lines."""
+    wrong = []
+    for arena, told in many_lanes.reports():
+        fault = check_report(arena) or (None if model.report(arena) == told else "the model's report is not %r" % told)
+        wrong += ["%s: %s" % (told.splitlines()[2], fault)] if fault else []
     return wrong
 
 
@@ -117,7 +120,15 @@ def check_histories(lib):
     notes, last, fault = histories.run(lib, HISTORIES)
     counts = sum(notes.seen.values()), sum(notes.cuts.values()), time.process_time() - began
     print("tests: %d histories, %d calls, %d writes cut, %.0f s" % (last, *counts))
-    return ["history %d: %s" % (last, fault)] if fault else ["histories: never seen: " + line for line in histories.unseen(notes)]
+    return ["history %d: %s" % (last, fault)] if fault else ["histories: never seen: " + line for line in notes.unseen()]
+
+
+def check_linux(lib):
+    """What is wrong with the library's calls on the arenas of the Linux driver, as lines."""
+    began = time.process_time()
+    count, fault = linux.run(lib)
+    print("tests: %d arenas of the Linux driver, %.0f s" % (count, time.process_time() - began))
+    return ["linux: " + fault] if fault else []
 
 
 def check_replays(lib):
@@ -149,8 +160,8 @@ def main():
     if (cases.CASES / "stdout").read_text() != cases.text():
         wrong.append("cases: the stored text is not the model's")
     lib = library.built()
-    wrong += check_sloppy() + check_layouts() + check_sizes() + check_running_cases() + check_checksums(lib)
-    wrong += check_histories(lib) + check_replays(lib)
+    wrong += check_sloppy() + check_layouts() + check_sizes() + check_lanes() + running_cases.check(lib) + check_checksums(lib)
+    wrong += check_histories(lib) + check_linux(lib) + check_replays(lib)
     for line in wrong:
         print("tests: " + line)
     print("tests: %d named and %d random arenas, answers %s, %d faults" % (len(built), RANDOM, dict(sorted(answers.items())), len(wrong)))

@@ -47,24 +47,25 @@ def lent(index, size):
     return struct.pack("<%dI" % (size // 4), *range(index, index + size // 4))
 
 
-def opened(arena, work):
-    """Opens in layout 16 with the lent work buffer; gives the number and the handle."""
-    found = model.open_arena(arena, work, model.PROGRAM_LAYOUT)
+def opened(arena, work, table):
+    """Opens in layout 16 with the lent work buffer and the replay's own table; gives the number and the handle."""
+    found = model.open_arena(arena, work, model.PROGRAM_LAYOUT, table)
     return found.number, calls.handle_of(found, len(arena))
 
 
-def ran(arena, work, handle, index, kind, lane, sector):
+def ran(arena, work, handle, table, index, kind, lane, sector):
     """Runs one record; gives its answer and the handle after it."""
     if kind == CUT:
-        return opened(arena, work)
+        return opened(arena, work, table)
     if kind == START:
-        return calls.start(arena, handle, lane, sector), handle
-    return calls.step(arena, handle, lane, lent(index, handle.figures.size)), handle
+        return calls.start(arena, handle, table, lane, sector), handle
+    return calls.step(arena, handle, table, lane, lent(index, handle.figures.size)), handle
 
 
 def replay(arena, work, log):
-    """Opens the arena and runs the log's records on it, in place."""
-    first, handle = opened(arena, work)
+    """Opens the arena and runs the log's records on it, in place; the table is the replay's own and suffices for every arena."""
+    table = [calls.Record()] * model.MAX_LANES
+    first, handle = opened(arena, work, table)
     replayed, at = Replayed(first), 0
     if first:
         return replayed
@@ -76,7 +77,7 @@ def replay(arena, work, log):
         if found is None:
             replayed.stopped = at
             break
-        answer, handle = ran(arena, work, handle, len(replayed.answers), *found)
+        answer, handle = ran(arena, work, handle, table, len(replayed.answers), *found)
         replayed.answers.append(answer)
         at += LENGTHS[found[0]]
     return replayed

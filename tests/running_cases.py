@@ -1,14 +1,9 @@
-"""What the program `runs` writes: case 9 in both layouts and case 10, worked out by the model of the calls.
-
-Run as a program it writes the text to crates/runs/stdout.
-"""
-import pathlib
+"""Case 9 in both layouts and case 10, made through a library as C calls it: the lines must be the model's, and the paper's be among them."""
 import struct
 
-import calls
+import library
 import model
 
-RUNS = pathlib.Path(__file__).resolve().parent.parent / "crates" / "runs"
 CONTENTS = bytes((7 * j + 3) % 256 for j in range(512))
 SECTOR = 7
 
@@ -40,85 +35,88 @@ PAPER_10 = (
 )
 
 
-def fresh(layout):
+class Run:
+    """One arena, its latest handle and its table of four records, with which this library makes the calls."""
+
+    def __init__(self, lib, arena, layout):
+        self.lib, self.arena, self.layout = lib, bytearray(arena), layout
+        self.handle, self.table = bytearray(library.HANDLE_BYTES), bytearray(4 * library.RECORD_BYTES)
+
+    def open(self, work=64):
+        """The number and the mended count of an opening with a work buffer of that length."""
+        return self.lib.open(self.arena, bytearray(work), self.layout, self.table, self.handle)
+
+    def call(self, name, *arguments):
+        """The number of a call with the latest handle."""
+        return getattr(self.lib, name)(self.arena, self.handle, self.table, *arguments)
+
+    def reads(self):
+        """Whether sector 7 is as in the fresh arena or as written."""
+        buffer = bytearray(512)
+        number = self.call("read", SECTOR, buffer)
+        return {bytes(512): "old", CONTENTS: "new"}.get(bytes(buffer), "torn") if number == 0 else "refused %d" % number
+
+
+def fresh(lib, layout):
     """The fresh arena of 49,152 bytes, opened in that layout."""
-    arena = model.made(512, 60, 4)
-    return arena, calls.handle_of(model.open_arena(arena, bytearray(64), layout), len(arena))
+    run = Run(lib, model.made(512, 60, 4), layout)
+    assert run.open() == (0, 0)
+    return run
 
 
-def store_made(before, after):
-    """The one word that differs, with its new value."""
+def stores(before, after):
+    """The words that differ, with their new values."""
     places = [at for at in range(0, len(after), 4) if before[at : at + 4] != after[at : at + 4]]
-    assert len(places) == 1
-    return places[0], struct.unpack_from("<I", after, places[0])[0]
+    return ["at %d value %d" % (at, struct.unpack_from("<I", after, at)[0]) for at in places]
 
 
-def reads(arena, handle):
-    """Whether sector 7 is as in the fresh arena or as written."""
-    buffer = bytearray(512)
-    number = calls.read(arena, handle, SECTOR, buffer)
-    return {bytes(512): "old", CONTENTS: "new"}[bytes(buffer)] if number == 0 else "refused %d" % number
-
-
-def case_9(layout):
+def case_9(lib, layout):
     """Lane 0 of a fresh arena writes sector 7, store by store, and the three cuts, each opened in the layout that the handle had."""
-    arena, handle = fresh(layout)
-    assert calls.start(arena, handle, 0, SECTOR) == 0
-    lines, cuts = [], []
+    run = fresh(lib, layout)
+    lines, cuts = ["start: %d" % run.call("start", 0, SECTOR)], []
     for k in range(1, 134):
-        before = bytes(arena)
-        assert calls.step(arena, handle, 0, CONTENTS) == 0
-        lines.append("store %d at %d value %d" % (k, *store_made(before, arena)))
+        before = bytes(run.arena)
+        number = run.call("step", 0, bytearray(CONTENTS))
+        lines.append("store %d %s" % (k, " and ".join(stores(before, run.arena))) if number == 0 else "step %d: %d" % (k, number))
         if k >= 131:
-            left = bytearray(arena)
-            opened = model.open_arena(left, bytearray(64), layout)
-            cuts.append("cut after %d: number %d mended %d" % (k, opened.number, opened.mended))
-            cuts[-1] += " reads " + reads(left, calls.handle_of(opened, len(left)))
+            left = Run(lib, run.arena, layout)
+            cuts.append("cut after %d: number %d mended %d" % (k, *left.open()))
+            cuts[-1] += " reads " + left.reads()
     return lines + cuts
 
 
-def case_10():
+def case_10(lib):
     """The first sector, lane, buffer length and work buffer that are refused."""
-    arena, handle = fresh(16)
-    short = bytearray(511)
+    run, started = fresh(lib, 16), fresh(lib, 16)
+    short, contents = bytearray(511), bytearray(CONTENTS)
     answers = [
-        ("read 59", calls.read(arena, handle, 59, bytearray(512))),
-        ("read 60", calls.read(arena, handle, 60, bytearray(512))),
-        ("start on lane 4", calls.start(arena, handle, 4, SECTOR)),
-        ("step on lane 4", calls.step(arena, handle, 4, CONTENTS)),
-        ("write on lane 4", calls.write(arena, handle, 4, SECTOR, CONTENTS)),
-        ("read into 511", calls.read(arena, handle, SECTOR, short)),
-    ]
-    started = handle.copy()
-    assert calls.start(arena, started, 0, SECTOR) == 0
-    answers += [
-        ("step with 511", calls.step(arena, started, 0, short)),
-        ("write with 511", calls.write(arena, handle, 0, SECTOR, short)),
-        ("open with 63", model.open_arena(arena, bytearray(63), 16).number),
-        ("open with 64", model.open_arena(arena, bytearray(64), 16).number),
+        ("read 59", run.call("read", 59, bytearray(512))),
+        ("read 60", run.call("read", 60, bytearray(512))),
+        ("start on lane 4", run.call("start", 4, SECTOR)),
+        ("step on lane 4", run.call("step", 4, contents)),
+        ("write on lane 4", run.call("write", 4, SECTOR, contents)),
+        ("read into 511", run.call("read", SECTOR, short)),
+        ("start", started.call("start", 0, SECTOR)),
+        ("step with 511", started.call("step", 0, short)),
+        ("write with 511", run.call("write", 0, SECTOR, short)),
+        ("open with 63", run.open(63)[0]),
+        ("open with 64", run.open(64)[0]),
     ]
     return ["%s: %d" % answer for answer in answers]
 
 
-def cases():
-    """Each case as its heading, its lines, and the paper's lines of it."""
+def cases(lib):
+    """Each case as its heading, its lines by this library, and the paper's lines of it."""
     for layout, places in HALVES.items():
-        yield "case 9 in layout %d" % layout, case_9(layout), ("\n".join(PAPER_9) % places).splitlines()
-    yield "case 10", case_10(), PAPER_10
+        yield "case 9 in layout %d" % layout, case_9(lib, layout), ("\n".join(PAPER_9) % places).splitlines()
+    yield "case 10", case_10(lib), PAPER_10
 
 
-def text():
-    return "".join("\n".join([heading, *lines]) + "\n" for heading, lines, _ in cases())
-
-
-def not_as_the_paper():
-    """The paper's lines that no line of their case is, or begins with before a value."""
+def check(lib):
+    """What of the cases is not as the model has it or not as the paper does, as lines: a line of the paper stands there, or begins a value's."""
     wrong = []
-    for heading, lines, paper in cases():
+    for (heading, lines, paper), (_, ours, _) in zip(cases(lib), cases(library.ModelLibrary()), strict=True):
+        wrong += ["%s: the model has %r" % (heading, line) for line, other in zip(ours, lines, strict=True) if line != other]
         told = [line for line in paper if line not in lines and not any(other.startswith(line + " value ") for other in lines)]
-        wrong += ["%s, %s" % (heading, line) for line in told]
+        wrong += ["%s: the paper has %r" % (heading, line) for line in told]
     return wrong
-
-
-if __name__ == "__main__":
-    (RUNS / "stdout").write_text(text())

@@ -10,7 +10,7 @@ MADE = "return Figures(size, sectors, internal, blocks, lanes, 4096, map_start, 
 ZEROED_FROM = "    end = f.data + f.blocks * f.internal\n"
 COPY_MADE = "    arena[f.copy :] = block\n"
 STORED = "    for offset, value in opened.stores[:k]:\n"
-FOUND = "    opened = judge(arena, len(work), layout)\n"
+FOUND = "    opened = judge(arena, len(work), layout, len(table))\n"
 FIGURES = "    f = opened.figures\n"
 GIVEN = "return Opened(0, len(pending), f, layout, lanes, stores)"
 
@@ -63,7 +63,7 @@ MODEL_MISTAKES = {
     "size: making zeroes each rest": (COPY_MADE, COPY_MADE + zeroed("range(f.blocks)", "    ")),
     "size: making zeroes the first rest": (COPY_MADE, COPY_MADE + zeroed("[0]", "    ")),
     "size: opening zeroes each rest": (FOUND, FOUND + FIGURES + zeroed("range(f.blocks if f else 0)", "    ")),
-    "size: opening zeroes the rests of free blocks": (FOUND, FOUND + FIGURES + zeroed("[lane.free for lane in opened.lanes]", "    ")),
+    "size: opening zeroes the rests of free blocks": (FOUND, FOUND + FIGURES + zeroed("[lane.block for lane in opened.lanes]", "    ")),
     "size: mending zeroes the new block's rest": (STORED, STORED + zeroed("[value & 0x3FFFFFFF]", "        ", "opened.figures")),
     "size: the handle has the sector size for both": (GIVEN, "f.internal = f.size\n    " + GIVEN),
     "size: the handle has the internal size for both": (GIVEN, "f.size = f.internal\n    " + GIVEN),
@@ -82,9 +82,9 @@ WORDS = "k, words = record.made, f.size // 4"
 FULL = "if made + 1 < f.size // 4 + 5:"
 MOST_MADE = "or made >= f.size // 4 + 5"
 LENGTH = "return length != f.size"
-STEP_JUDGED = 'refusal("step", arena, handle, lane, 0, len(buffer))'
-STARTED = "        handle.records[lane] = started("
-STEPPED = "        handle.records[lane] = stepped(f, record)\n"
+STEP_JUDGED = 'refusal("step", arena, handle, table, lane, 0, len(buffer))'
+STARTED = "        table[lane] = started("
+STEPPED = "        table[lane] = stepped(f, record)\n"
 WRITTEN = "        for offset, value in stores:\n            put(arena, offset, value)\n"
 NEXT = "    f = handle.figures\n    return 0, store("
 JUDGED = "not model.figures_allowed(f, length)"
@@ -127,18 +127,18 @@ CALL_MISTAKES = {
     "size: a read gives 512 bytes": (READ, READ + "        buffer[f.size & ~511 :] = bytes(f.size & 511)\n"),
     "size: a read of zeroes leaves what is past 512": (READ, READ.replace("bytes(f.size)", "bytes(f.size & ~511) + buffer[f.size & ~511 :]")),
     "size: a read zeroes the rest": (READ, READ + zeroed("[model.block_of(sector, word)]", "        ")),
-    "size: a start zeroes the rest": (STARTED, zeroed("[handle.records[lane].block]", "        ", "handle.figures") + STARTED),
+    "size: a start zeroes the rest": (STARTED, zeroed("[table[lane].block]", "        ", "handle.figures") + STARTED),
     "size: a first step zeroes the rest": step_zeroes("record.made == 0", "record.block"),
     "size: the last data step zeroes the rest": step_zeroes("record.made == f.size // 4 - 1", "record.block"),
     "size: the last step zeroes the rest": step_zeroes("record.made == f.size // 4 + 4", "record.block"),
     "size: the last step zeroes the old block's rest": step_zeroes("record.made == f.size // 4 + 4", "record.old"),
     "size: a whole write zeroes the rest": (WRITTEN, WRITTEN + zeroed("[stores[-1][1] & 0x3FFFFFFF]", "        ", "handle.figures")),
-    "size: a whole write zeroes the old block's rest": (WRITTEN, WRITTEN + zeroed("[handle.records[lane].block]", "        ", "handle.figures")),
+    "size: a whole write zeroes the old block's rest": (WRITTEN, WRITTEN + zeroed("[table[lane].block]", "        ", "handle.figures")),
     "size: the handle's internal size not judged": (JUDGED, JUDGED.replace("(f", "(replace(f, internal=model.internal_size(f.size))")),
     "size: the handle's sector size not judged": (JUDGED, JUDGED.replace("(f", "(replace(f, size=%s)" % BY_INTERNAL)),
 }
 
-LENT = "    return calls.step(arena, handle, lane, lent(index, handle.figures.size)), handle\n"
+LENT = "    return calls.step(arena, handle, table, lane, lent(index, handle.figures.size)), handle\n"
 WORDS_LENT, SIZE = "lent(index, handle.figures.size)", "handle.figures.size"
 
 # Mistakes of the replay, by name.

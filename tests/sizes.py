@@ -167,8 +167,7 @@ def try_forbidden(lib, notes):
             struct.pack_into("<4I", arena, flog + 64 * lane, lane, sectors + lane, sectors + lane, 1)
         pair = Pair(lib, arena, rng, notes)
         demand(pair, pair.open(AMPLE, 16) == (3, 0), "%d sectors of %d bytes in blocks of %d are answered with 3" % (sectors, size, internal))
-        records = [calls.Record(0, sectors + lane, 1, 2) for lane in range(lanes)] + [calls.Record()] * (16 - lanes)
-        pair.hold(calls.Handle(len(arena), figures, records, 16))
+        pair.hold(calls.Handle(len(arena), figures, 16), [calls.Record(0, sectors + lane, 1, 2) for lane in range(lanes)])
         demand(pair, pair.read(0, size)[0] == 16 and pair.write(0, 0, bytes(size)) == 16, "a handle that tells so is answered with 16")
 
 
@@ -227,7 +226,7 @@ def try_records(lib, notes):
         pair = opened_pair(lib, rng, notes, row, 32)
         for busy in (0, 1):
             for most, made in enumerate(MOST_MADE[row.size]):
-                copy = pair.aside(handle=forged.with_record(pair.handle, row.lane, busy=busy, sector=row.sector, made=made))
+                copy = pair.aside(table=forged.with_record(pair.table, row.lane, busy=busy, sector=row.sector, made=made))
                 due = 16 if most else 0
                 demand(copy, copy.read(0, row.size)[0] == due and copy.lane_record(0)[0] == due, "%d stores made are answered with %d" % (made, due))
                 due = due or (14 if busy == 0 else 0)
@@ -268,7 +267,7 @@ def try_stores(lib, notes):
                 if telling:
                     try_cut(pair, row, layout, k + 1, buffer)
             demand(pair, pair.step(row.lane, buffer) == 14, "a step more is answered with 14")
-            demand(pair, (pair.lent, pair.lent_handle) == (whole.lent, whole.lent_handle), "a whole write is its start and steps")
+            demand(pair, (pair.lent, pair.lent_table) == (whole.lent, whole.lent_table), "a whole write is its start and steps")
             try_next_write(pair, row)
 
 

@@ -16,7 +16,7 @@ import random_arenas
 from pair import Pair
 
 AMPLE = 2**15
-SIZES = ((512, 5, 3), (520, 20, 4), (512, 80, 16), (528, 8, 6), (4104, 4, 3))
+SIZES = ((512, 5, 3), (520, 20, 4), (512, 50, 40), (528, 8, 6), (4104, 4, 3))
 # What opening judges after the work buffer's length.
 AFTER_5 = (0, 6, 7, 18, 8)
 
@@ -159,11 +159,12 @@ def check_left(pair, what, number, arena, f, layout):
     """What an opening leaves, told without the model: a work buffer cleared up to I or untouched; after a refusal the arena, and no handle."""
     lent, work, handle = bytearray(arena), bytearray(pair.rng.randbytes(f.blocks + 3)), bytearray(pair.rng.randbytes(library.HANDLE_BYTES))
     due = bytes(f.blocks) + work[f.blocks :] if number in AFTER_5 else bytes(work)
-    demand(pair, what, pair.lib.open(lent, work, layout, handle)[0], number)
+    table = forged.rubbish(pair.rng, f.lanes + 2)
+    demand(pair, what, pair.lib.open(lent, work, layout, lent_table := bytearray(table), handle)[0], number)
     if work != due:
         pair.fail("not so: the work buffer ends as the rules say, " + what)
-    if number and (lent != arena or any(handle)):
-        pair.fail("not so: a refusal leaves the arena and gives no handle, " + what)
+    if number and (lent != arena or any(handle) or lent_table != table):
+        pair.fail("not so: a refusal leaves the arena and the table and gives no handle, " + what)
 
 
 def demand(pair, what, number, due):
@@ -171,9 +172,9 @@ def demand(pair, what, number, due):
         pair.fail("not so: %s is answered with %d" % (what, due))
 
 
-def demand_kept(pair, arena, handle):
-    if (pair.lent, pair.lent_handle) != (arena, handle):
-        pair.fail("not so: a refused call leaves the arena and the handle")
+def demand_kept(pair, arena, handle, table):
+    if (pair.lent, pair.lent_handle, pair.lent_table) != (arena, handle, table):
+        pair.fail("not so: a refused call leaves the arena, the handle and the table")
 
 
 # Calls on one sector whose word is sloppy and that have another fault too.
@@ -187,19 +188,19 @@ def try_orders(lib, notes):
         pair.open(AMPLE, layout)
         f = pair.handle.figures
         for lane, sector in ((0, f.sectors - 1), (f.lanes - 1, f.lanes)):
-            for number, handle in forged.refusing(pair.handle, lane, sector):
-                copy = pair.aside(handle=handle)
+            for number, handle, table in forged.refusing(pair.handle, pair.table, lane, sector):
+                copy = pair.aside(handle=handle, table=table)
                 copy.put([(f.map + 4 * sector, random_arenas.a_sloppy_word(rng))])
                 demand(copy, "a whole write by a forged handle", copy.write(lane, sector, rng.randbytes(f.size)), number)
                 demand(copy, "a start by a forged handle", copy.start(lane, sector), number)
-                demand(copy, "a read by a forged handle", copy.read(sector, f.size)[0], number if number in (16, 9) else 18)
+                demand(copy, "a read by a forged handle", copy.read(sector, f.size)[0], number if number in (16, 21, 9) else 18)
         pair.start(1, 1)
         pair.put([(f.map + 4 * sector, random_arenas.a_sloppy_word(rng)) for sector in (0, 1, f.sectors)])
         for name, lane, sector, length, number in order_rows(f):
             copy = pair.aside()
             demand(copy, name, copy.perform(name, lane, sector, length), number)
             if number:
-                demand_kept(copy, pair.lent, pair.lent_handle)
+                demand_kept(copy, pair.lent, pair.lent_handle, pair.lent_table)
     try_other_map(lib, rng, notes)
 
 
@@ -305,7 +306,7 @@ class Live:
             if after != (before if number else self.row.sectors[sector][1]):
                 self.pair.fail("not so: a read gives the last finished write")
             return
-        kept = (bytes(self.pair.lent), bytes(self.pair.lent_handle)) if due else ()
+        kept = (bytes(self.pair.lent), bytes(self.pair.lent_handle), bytes(self.pair.lent_table)) if due else ()
         self.demand("a " + name, self.pair.perform(name, lane, sector, buffer), due)
         if due:
             demand_kept(self.pair, *kept)
@@ -326,7 +327,7 @@ class Live:
 
     def any_call(self):
         """Any call, most often at a sector that is sloppy."""
-        self.call(*forged.a_call(self.rng, self.pair.handle, self.rng.choice([*self.sectors, None])))
+        self.call(*forged.a_call(self.rng, self.pair.handle, self.pair.table, self.rng.choice([*self.sectors, None])))
 
     def cut(self):
         """The power cut: the arena is refused while it is sloppy, opens once the words that stood there are back, and reads as the row does."""

@@ -83,7 +83,7 @@ MODEL_MISTAKES = {
     "18: bytes behind the data judged": (JUDGED, JUDGED + refused("any(arena[f.data + f.blocks * f.internal : f.map])")),
     "18: bytes before the data judged": (JUDGED, JUDGED + refused("any(arena[4096 : f.data])")),
     "18: unnamed info bytes judged": (JUDGED, JUDGED + refused("any(block[120:4088])")),
-    "18: the work buffer is kept": ("if opened.number in (0, 6, 7, 18, 8):", "if opened.number in (0, 6, 7, 8):"),
+    "18: the work buffer is kept": ("if opened.number in (0, 21, 6, 7, 18, 8):", "if opened.number in (0, 21, 6, 7, 8):"),
     "18: answered with 7": (JUDGED, JUDGED.replace("18", "7")),
     "18: making leaves a lane's padding": (
         "    end = f.data + f.blocks * f.internal\n", "    end, kept = f.data + f.blocks * f.internal, arena[f.flog + 32 : f.flog + 64]\n",
@@ -97,13 +97,13 @@ MODEL_MISTAKES.update(
 )
 
 WORD_JUDGED = "return model.sloppy_word(word)"
-READ = 'number = refusal("read", arena, handle, 0, sector, len(buffer))\n'
-START = 'number = refusal("start", arena, handle, lane, sector)\n    if number == 0:'
-WRITE = 'number = refusal("write", arena, handle, lane, sector, len(buffer))\n    if number == 0:'
-STEP = 'number = refusal("step", arena, handle, lane, 0, len(buffer))'
+READ = 'number = refusal("read", arena, handle, table, 0, sector, len(buffer))\n'
+START = 'number = refusal("start", arena, handle, table, lane, sector)\n    if number == 0:'
+WRITE = 'number = refusal("write", arena, handle, table, lane, sector, len(buffer))\n    if number == 0:'
+STEP = 'number = refusal("step", arena, handle, table, lane, 0, len(buffer))'
 STEP_ORDER = '"step": %s' % (calls.ORDER["step"],)
-STEP_JUDGES = STEP_ORDER, STEP_ORDER.replace(")", ", 18)"), STEP, STEP.replace("lane, 0", "lane, handle.records[min(lane, 15)].sector")
-BEFORE_LAST = "\n    if number == 18 and handle.records[lane].made < handle.figures.size // 4 + 4:\n        number = 0"
+STEP_JUDGES = STEP_ORDER, STEP_ORDER.replace(")", ", 18)"), STEP, STEP.replace("lane, 0", "lane, sum(r.sector for r in table[lane : lane + 1])")
+BEFORE_LAST = "\n    if number == 18 and table[lane].made < handle.figures.size // 4 + 4:\n        number = 0"
 
 # Mistakes of the calls, by name.
 CALL_MISTAKES = {

@@ -1,21 +1,17 @@
 //! Arenas of 16 MiB in memory, each at an address that is a multiple of 4,096.
 use crate::calls::Calls;
 use crate::library::Library;
-use btt::{Arena, Geometry, Handle, Identifiers, MAX_SECTOR, MIN_ARENA};
+use btt::{Arena, Geometry, Handle, Identifiers, Lane, MAX_SECTOR, MIN_ARENA};
 use std::ops::{Deref, DerefMut};
 use std::slice;
 
 pub const LENGTH: usize = 16_777_216;
-pub const LANES: u32 = 4;
-
-/// Of each sector size the most sectors that 16 MiB hold with four lanes.
-pub const SMALL: Geometry = Geometry { size: 512, sectors: 32_484, lanes: LANES };
-pub const SMALL_AND_8: Geometry = Geometry { size: 520, sectors: 28_895, lanes: LANES };
-pub const SMALL_AND_16: Geometry = Geometry { size: 528, sectors: 28_895, lanes: LANES };
-pub const LARGE: Geometry = Geometry { size: 4096, sectors: 4085, lanes: LANES };
-pub const LARGE_AND_8: Geometry = Geometry { size: 4104, sectors: 4022, lanes: LANES };
-pub const ALL: [Geometry; 5] = [SMALL, SMALL_AND_8, SMALL_AND_16, LARGE, LARGE_AND_8];
 const SHORTEST: Geometry = Geometry { size: 512, sectors: 1, lanes: 1 };
+
+/// The most sectors of a size that 16 MiB hold with so many lanes.
+pub fn longest(size: u32, lanes: u32) -> Geometry {
+    Geometry::fitting(LENGTH as u64, size, lanes).expect("a size and a number of lanes that are allowed")
+}
 
 #[repr(C, align(4096))]
 #[derive(Clone, Copy)]
@@ -81,12 +77,13 @@ pub fn shortest(count: u32) -> Vec<Pages> {
 /// An arena whose sectors are all written once, its lanes in turn.
 pub fn written(geometry: Geometry) -> Pages {
     let mut arena = fresh(geometry);
-    let mut handle = Handle::default();
-    let mut work = vec![0; (geometry.sectors + LANES) as usize];
-    let mut answers = Library::open(&mut arena, &mut work, &mut handle, &mut 0);
-    for sector in 0..geometry.sectors {
-        let bytes = sector_bytes(geometry.size, sector);
-        answers |= Library::write(&mut arena, &mut handle, sector % LANES, sector, &bytes[..geometry.size as usize]);
+    let Geometry { size, sectors, lanes } = geometry;
+    let (mut handle, mut table) = (Handle::default(), vec![Lane::default(); lanes as usize]);
+    let mut work = vec![0; (sectors + lanes) as usize];
+    let mut answers = Library::open(&mut arena, &mut work, &mut table, &mut handle, &mut 0);
+    for sector in 0..sectors {
+        let bytes = sector_bytes(size, sector);
+        answers |= Library::write(&mut arena, &handle, &mut table, sector % lanes, sector, &bytes[..size as usize]);
     }
     assert_eq!(answers, 0, "writing every sector");
     arena

@@ -1,10 +1,10 @@
 //! The rows of the table. The library and the plain program have an arena each, in the same state, and change arenas at every round;
 //! the copy has room of its own.
-use crate::arena::{sector_bytes, shortest, Pages, LANES, LENGTH};
+use crate::arena::{sector_bytes, shortest, Pages, LENGTH};
 use crate::calls::{Calls, Plain};
 use crate::library::Library;
 use crate::measure::{measure, Side, Times};
-use btt::{internal_size, Geometry, Handle};
+use btt::{internal_size, Geometry, Handle, Lane};
 use std::env;
 use std::hint::black_box;
 
@@ -14,11 +14,15 @@ fn copy(into: &mut [u8], from: &[u8]) {
     into.copy_from_slice(from);
 }
 
-/// An arena, its handle and a work buffer.
+/// Rounds of a row in which a batch is many operations.
+const ROUNDS: usize = 60;
+
+/// An arena, its handle and table, and a work buffer.
 #[derive(Clone)]
 struct Opened {
     arena: Pages,
     handle: Handle,
+    table: Vec<Lane>,
     work: Pages,
 }
 
@@ -32,7 +36,9 @@ pub struct Bench {
 
 impl Bench {
     pub fn new(geometry: Geometry, arena: Pages) -> Bench {
-        let mut one = Opened { arena, handle: Handle::default(), work: Pages::zeroes((geometry.sectors + LANES) as usize) };
+        let table = vec![Lane::default(); geometry.lanes as usize];
+        let work = Pages::zeroes((geometry.sectors + geometry.lanes) as usize);
+        let mut one = Opened { arena, handle: Handle::default(), table, work };
         one.open::<Library>(1);
         Bench { geometry, two: [one.clone(), one], room: Pages::zeroes(LENGTH), buffer: sector_bytes(geometry.size, 12_345) }
     }
@@ -48,10 +54,11 @@ impl Bench {
         (size as usize, internal_size(size).expect("a size of sectors") as usize)
     }
 
-    /// Sees that both sides left the same arena and handle.
+    /// Sees that both sides left the same arena, handle and table.
     fn compare(&self, what: &str) {
         let [one, other] = &self.two;
-        assert!(one.arena[..] == other.arena[..] && one.handle == other.handle, "the two arenas differ after: {what}");
+        let same = one.arena[..] == other.arena[..] && one.handle == other.handle && one.table == other.table;
+        assert!(same, "the two arenas differ after: {what}");
     }
 
     /// Prints a row, once it is seen that both sides left the same.
@@ -90,13 +97,14 @@ impl Bench {
 impl Opened {
     fn open<C: Calls>(&mut self, times: u32) {
         for _ in 0..times {
-            let answer = C::open(&mut self.arena, &mut self.work, &mut self.handle, &mut 0);
+            let answer = C::open(&mut self.arena, &mut self.work, &mut self.table, &mut self.handle, &mut 0);
             assert_eq!(answer, 0, "opening");
         }
     }
 
     fn write<C: Calls>(&mut self, sector: u32, bytes: &[u8]) {
-        let answer = C::write(&mut self.arena, &mut self.handle, sector % LANES, sector, bytes);
+        let lane = sector % self.handle.lanes;
+        let answer = C::write(&mut self.arena, &self.handle, &mut self.table, lane, sector, bytes);
         assert_eq!(answer, 0, "a whole write");
     }
 
@@ -108,10 +116,10 @@ impl Opened {
 
     fn step_writes<C: Calls>(&mut self, sectors: impl Iterator<Item = u32>, bytes: &[u8]) {
         for sector in sectors {
-            let lane = sector % LANES;
-            let mut answers = C::start(&self.arena, &mut self.handle, lane, sector);
+            let lane = sector % self.handle.lanes;
+            let mut answers = C::start(&self.arena, &self.handle, &mut self.table, lane, sector);
             for _ in 0..self.handle.steps() {
-                answers |= C::step(&mut self.arena, &mut self.handle, lane, bytes);
+                answers |= C::step(&mut self.arena, &self.handle, &mut self.table, lane, bytes);
             }
             assert_eq!(answers, 0, "a stepped write");
         }
@@ -119,13 +127,13 @@ impl Opened {
 
     fn read<C: Calls>(&self, sector: u32) -> Vec<u8> {
         let mut buffer = vec![0; self.handle.sector_size()];
-        assert_eq!(C::read(&self.arena, &self.handle, sector, &mut buffer), 0, "a read");
+        assert_eq!(C::read(&self.arena, &self.handle, &self.table, sector, &mut buffer), 0, "a read");
         buffer
     }
 
     fn read_round<C: Calls>(&mut self, buffer: &mut [u8]) {
         for sector in 0..self.handle.sectors {
-            let answer = C::read(&self.arena, &self.handle, sector, buffer);
+            let answer = C::read(&self.arena, &self.handle, &self.table, sector, buffer);
             assert_eq!(answer, 0, "a read");
             black_box(&buffer);
         }
@@ -150,7 +158,8 @@ pub fn opening(bench: &mut Bench, what: &str) {
     }
     let handle = bench.two[0].handle;
     let times = 80_000 / handle.sectors;
-    let parts = [(0, 4096), (handle.map as usize, 4 * handle.sectors as usize), (handle.flog as usize, 64 * LANES as usize)];
+    let (map, flog) = (4 * handle.sectors as usize, 64 * handle.lanes as usize);
+    let parts = [(0, 4096), (handle.map as usize, map), (handle.flog as usize, flog)];
     let measured = measure(300, times, |side, round| match side {
         Side::Library => bench.own(side, round).0.open::<Library>(times),
         Side::Plain => bench.own(side, round).0.open::<Plain>(times),
@@ -170,7 +179,7 @@ pub fn whole_writes(bench: &mut Bench, what: &str) {
         return;
     }
     let (sectors, (size, internal)) = (bench.geometry.sectors, bench.sizes());
-    let measured = measure(150, sectors, |side, round| {
+    let measured = measure(ROUNDS, sectors, |side, round| {
         let (one, bytes, room) = bench.own(side, round);
         match side {
             Side::Library => one.write_round::<Library>(bytes),
@@ -183,16 +192,15 @@ pub fn whole_writes(bench: &mut Bench, what: &str) {
     bench.print(&measured, what);
 }
 
-/// Stepped writes, a start and all steps, going round; for a sector the copy is of it whole, for a step of one word.
-pub fn stepped_writes(bench: &mut Bench, what: &str, per_step: bool) {
+/// Steps of writes, going round; the starts are in it. The copy is of one word a step.
+pub fn steps(bench: &mut Bench, what: &str) {
     if !asked(what) {
         return;
     }
     const BATCH: u32 = 16;
     let (sectors, (size, internal)) = (bench.geometry.sectors, bench.sizes());
-    let steps = bench.two[0].handle.steps();
-    let operations = if per_step { BATCH * steps } else { BATCH };
-    let measured = measure(150, operations, |side, round| {
+    let operations = BATCH * bench.two[0].handle.steps();
+    let measured = measure(ROUNDS, operations, |side, round| {
         let (one, bytes, room) = bench.own(side, round);
         let batch = (round as u32 * BATCH..).take(BATCH as usize).map(|sector| sector % sectors);
         match side {
@@ -200,7 +208,7 @@ pub fn stepped_writes(bench: &mut Bench, what: &str, per_step: bool) {
             Side::Plain => one.step_writes::<Plain>(batch, bytes),
             Side::Copy => {
                 for sector in batch {
-                    copy_sector(&mut room[sector as usize * internal..][..size], bytes, per_step);
+                    copy_words(&mut room[sector as usize * internal..][..size], bytes);
                 }
             }
         }
@@ -208,11 +216,8 @@ pub fn stepped_writes(bench: &mut Bench, what: &str, per_step: bool) {
     bench.print(&measured, what);
 }
 
-/// Copies a sector, whole or in words of 4 bytes, and then once more the first five words, as many as a write puts into flog and map.
-fn copy_sector(into: &mut [u8], from: &[u8], by_words: bool) {
-    if !by_words {
-        return copy(into, from);
-    }
+/// Copies a sector in words of 4 bytes, and then once more the first five words, as many as a write puts into flog and map.
+fn copy_words(into: &mut [u8], from: &[u8]) {
     for at in (0..from.len()).step_by(4).chain((0..20).step_by(4)) {
         copy(&mut into[at..at + 4], &from[at..at + 4]);
     }
@@ -224,7 +229,7 @@ pub fn reads(bench: &mut Bench, what: &str) {
         return;
     }
     let (sectors, (size, internal)) = (bench.geometry.sectors, bench.sizes());
-    let measured = measure(150, sectors, |side, round| {
+    let measured = measure(ROUNDS, sectors, |side, round| {
         let (one, buffer, room) = bench.own(side, round);
         match side {
             Side::Library => one.read_round::<Library>(buffer),

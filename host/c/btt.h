@@ -4,10 +4,14 @@
  * What the caller keeps, in every call:
  *   - a pointer is valid for the length that is given after it; a null pointer with length 0 is an empty slice;
  *   - the slices, the handle and the numbers that one call is given lie apart: no two of them share a byte;
- *   - the arena's address is a multiple of 4, so that each step is one aligned store;
+ *   - the arena's address is a multiple of 4, so that each step is one aligned store, and so is the table's;
  *   - no other thread changes what a call was given until the call is back, and none reads what the call may change.
  * Nothing else is asked: every input is answered, by 0 or by a number of enum btt_answer, and the first that applies in the order
  * that the call's comment gives is the answer. The library keeps nothing between calls and needs only memcpy, memmove and memset.
+ *
+ * What is remembered of the lanes between calls stands in a table, an array of struct btt_lane that the caller keeps and lends to every
+ * call: record n is that of lane n. A table_length counts records, not bytes. A table needs a record for each lane, and may have more;
+ * what stands past the lanes is any bytes, and no call looks at it or changes it. BTT_MAX_LANES records serve every arena.
  *
  * What stands in an arena, and when exactly each answer is given, is told in docs/FORMAT.md.
  */
@@ -39,10 +43,11 @@ enum btt_answer {
     BTT_SECTOR_BUSY = 13,       /* another lane has that sector in flight */
     BTT_LANE_IDLE = 14,         /* the lane has no write in flight */
     BTT_BAD_SECTOR = 15,        /* the sector read is marked bad: its map word has bit 30 (Error) alone */
-    BTT_BAD_HANDLE = 16,        /* the handle breaks a figure, has a record out of range, or does not match the arena's length; or a layout,
-                                   the handle's or the one that an opening is told, is neither 16 nor 32 */
+    BTT_BAD_HANDLE = 16,        /* the handle breaks a figure or does not match the arena's length, or the record of a lane is out of range;
+                                   or a layout, the handle's or the one that an opening is told, is neither 16 nor 32 */
     BTT_SLOPPY = 18,            /* a map word with neither flag is not 0, or the padding of a lane is not */
-    BTT_BAD_RECORD = 20         /* a record of the log is short, has another length than its kind, or an unknown kind; or the log is too long */
+    BTT_BAD_RECORD = 20,        /* a record of the log is short, has another length than its kind, or an unknown kind; or the log is too long */
+    BTT_SHORT_TABLE = 21        /* the table has fewer records than there are lanes */
 };
 
 /*
@@ -67,28 +72,32 @@ enum {
     BTT_INFO_SIZE = 4096,       /* bytes of an info block: the first and the last of an arena */
     BTT_ID_SIZE = 16,           /* bytes of an identifier */
     BTT_MAX_SECTOR = 4104,      /* bytes of the longest sector: a buffer so long has room for a sector of every arena */
-    BTT_MAX_LANES = 16,
+    BTT_MAX_LANES = 256,        /* an arena has 1 lane to so many */
     BTT_LANE_SIZE = 28,         /* bytes of a struct btt_lane */
-    BTT_HANDLE_SIZE = 512,      /* bytes of a struct btt_handle */
+    BTT_HANDLE_SIZE = 64,       /* bytes of a struct btt_handle */
     BTT_MAX_LOG = 8192,         /* bytes of the longest run log */
     BTT_MAX_RECORDS = 2048      /* the most records that a run log has: an answers buffer of that length always suffices */
 };
 
-/* A lane's record. */
+/*
+ * A lane's record, plain data like the handle. An accepted opening sets those of all lanes, and an accepted start, step or whole write
+ * changes the one of its own lane; nothing else changes the table, and no refused call does. A record is in range, idle or busy, if each
+ * field is in the range that is told here; else every call with a handle is answered with 16.
+ */
 struct btt_lane {
-    uint32_t busy;              /* 1 with a write in flight, else 0; any other value below the lanes is answered with 16 */
-    uint32_t block;             /* the free block; of a write in flight, its new block */
+    uint32_t busy;              /* 1 with a write in flight, else 0 */
+    uint32_t block;             /* the free block; of a write in flight, its new block: below the blocks */
     uint32_t half;              /* the half of the lane's flog pair that is written next: 0 or 1 */
     uint32_t sequence;          /* the sequence number that is written next: 1, 2 or 3 */
-    uint32_t sector;            /* of a write in flight: its sector, */
-    uint32_t old;               /* the block that the map had for it, */
-    uint32_t made;              /* and how many of its size / 4 + 5 stores are made */
+    uint32_t sector;            /* of a write in flight: its sector, below the sectors, */
+    uint32_t old;               /* the block that the map had for it, below the blocks, */
+    uint32_t made;              /* and how many of its size / 4 + 5 stores are made, fewer than all */
 };
 
 /*
- * What opening gives, and every later call judges anew: plain data, little-endian, with no padding, and no secret. It may be copied;
- * a copy that a later call has outdated is still answered, but may spoil the arena. Only starts, steps and whole writes change it, and
- * of it only the record of their lane, and only if they are accepted.
+ * What opening gives, and every later call judges anew: plain data, little-endian, with no padding, and no secret. Only an opening writes
+ * it. It is the latest handle together with its table as the last call left it. Both may be copied; with an earlier state of the table
+ * a call is still answered, but may spoil the arena. A table of another opening is judged by the range of its records only.
  */
 struct btt_handle {
     uint64_t length;                        /* the arena's length in bytes */
@@ -97,25 +106,48 @@ struct btt_handle {
     uint32_t sectors;
     uint32_t internal;                      /* bytes of a block: the size rounded up to a multiple of 64 */
     uint32_t blocks;                        /* sectors + lanes */
-    uint32_t lanes;                         /* 1 to 16 */
+    uint32_t lanes;                         /* 1 to 256 */
     uint32_t layout;                        /* the one that opening was told, 16 or 32; another value is answered with 16 */
-    struct btt_lane lane[BTT_MAX_LANES];    /* those past the lanes are 0 after opening; not judged, and not changed by any other call */
 };
 
+/* The sizes of the structs and the places of their fields, which are the same for every compiler and in C++. */
 #if defined(__cplusplus) && __cplusplus >= 201103L
-static_assert(sizeof(struct btt_lane) == BTT_LANE_SIZE, "a lane's record is 28 bytes");
-static_assert(sizeof(struct btt_handle) == BTT_HANDLE_SIZE, "a handle is 512 bytes");
+#define BTT_HOLDS(name, condition) static_assert(condition, #name)
 #elif defined(__STDC_VERSION__) && __STDC_VERSION__ >= 201112L
-_Static_assert(sizeof(struct btt_lane) == BTT_LANE_SIZE, "a lane's record is 28 bytes");
-_Static_assert(sizeof(struct btt_handle) == BTT_HANDLE_SIZE, "a handle is 512 bytes");
+#define BTT_HOLDS(name, condition) _Static_assert(condition, #name)
 #else
-typedef char btt_lane_is_28_bytes[sizeof(struct btt_lane) == BTT_LANE_SIZE ? 1 : -1];
-typedef char btt_handle_is_512_bytes[sizeof(struct btt_handle) == BTT_HANDLE_SIZE ? 1 : -1];
+#define BTT_HOLDS(name, condition) typedef char btt_holds_##name[(condition) ? 1 : -1]
 #endif
+#define BTT_PLACE(of, field, offset) BTT_HOLDS(of##_##field, offsetof(struct btt_##of, field) == (offset))
+
+BTT_HOLDS(lane_bytes, sizeof(struct btt_lane) == BTT_LANE_SIZE);
+BTT_PLACE(lane, busy, 0);
+BTT_PLACE(lane, block, 4);
+BTT_PLACE(lane, half, 8);
+BTT_PLACE(lane, sequence, 12);
+BTT_PLACE(lane, sector, 16);
+BTT_PLACE(lane, old, 20);
+BTT_PLACE(lane, made, 24);
+BTT_HOLDS(handle_bytes, sizeof(struct btt_handle) == BTT_HANDLE_SIZE);
+BTT_PLACE(handle, length, 0);
+BTT_PLACE(handle, data, 8);
+BTT_PLACE(handle, map, 16);
+BTT_PLACE(handle, flog, 24);
+BTT_PLACE(handle, copy, 32);
+BTT_PLACE(handle, size, 40);
+BTT_PLACE(handle, sectors, 44);
+BTT_PLACE(handle, internal, 48);
+BTT_PLACE(handle, blocks, 52);
+BTT_PLACE(handle, lanes, 56);
+BTT_PLACE(handle, layout, 60);
+
+#undef BTT_PLACE
+#undef BTT_HOLDS
 
 /*
- * Makes an arena of that many sectors of that size, with so many lanes, in a slice of just the length that this works out: both info
- * blocks and every byte after the data blocks are written, the data blocks are not touched. A cut while making promises nothing.
+ * Makes an arena of that many sectors of that size, with so many lanes, 1 to 256 and not more than sectors, in a slice of just the length
+ * that this works out: both info blocks and every byte after the data blocks are written, the data blocks are not touched. A cut while
+ * making promises nothing.
  * With each part rounded up to a multiple of 4,096 the length is 4,096 + internal size x (sectors + lanes) + 4 x sectors + 64 x lanes +
  * 4,096.
  * Answers 3 (size, sectors and lanes), 1, 10; a refusal changes nothing. Making gives no handle: open the arena.
@@ -132,58 +164,70 @@ void btt_info_block(const uint8_t *arena, size_t arena_length, uint64_t *offset,
 /*
  * Opens an arena in a layout, BTT_LAYOUT_NEAR or BTT_LAYOUT_FAR, which the handle then carries: all is judged before anything is stored,
  * then each pending lane is mended by one store to the map.
- * The work buffer needs a byte for each block. On 0, 6, 7, 8 and 18 as many of its bytes as there are blocks are 0 afterwards, the rest and
- * on 1 to 5 and 16 all of it is unchanged. *mended is the number of lanes that were pending.
- * Answers 16 (the layout is neither), 1 to 7, 18, 8 in order, 18 over all map words and all lanes; a refusal leaves the arena, makes
- * *mended 0 and all of *handle zeroes.
+ * The work buffer needs a byte for each block. On 0, 21, 6, 7, 18 and 8 as many of its bytes as there are blocks are 0 afterwards, the rest
+ * and on 16 and 1 to 5 all of it is unchanged. *mended is the number of lanes that were pending.
+ * The table needs a record for each lane. If the opening is accepted just these are set, each to an idle lane; what the table held before
+ * does not matter.
+ * Answers 16 (the layout is neither), 1 to 5, 21, 6, 7, 18, 8 in order, 18 over all map words and all lanes; a refusal leaves arena and
+ * table, makes *mended 0 and all 64 bytes of *handle zeroes.
  */
-uint32_t btt_open(uint8_t *arena, size_t arena_length, uint8_t *work, size_t work_length, uint32_t layout, struct btt_handle *handle,
-                  uint32_t *mended);
+uint32_t btt_open(uint8_t *arena, size_t arena_length, uint8_t *work, size_t work_length, uint32_t layout, struct btt_lane *table,
+                  size_t table_length, struct btt_handle *handle, uint32_t *mended);
 
 /*
  * An opening that stops after its first k stores, or makes all if there are fewer, as a power cut would stop it. It answers, counts and
- * leaves the work buffer as btt_open does, and gives no handle.
+ * leaves the work buffer as btt_open does, and gives no handle. Of the table only the length counts: it is answered with 21 where btt_open
+ * would be, and neither read nor changed.
  */
-uint32_t btt_cut_open(uint8_t *arena, size_t arena_length, uint8_t *work, size_t work_length, uint32_t layout, uint32_t k,
-                      uint32_t *mended);
+uint32_t btt_cut_open(uint8_t *arena, size_t arena_length, uint8_t *work, size_t work_length, uint32_t layout, const struct btt_lane *table,
+                      size_t table_length, uint32_t k, uint32_t *mended);
+
+/*
+ * The calls below are lent the handle and its table. Each judges the handle's figures first (16), then the table's length (21), then every
+ * record of the lanes (16): so 16, 21, 16 begins the answers of all of them. None changes the handle, and none but btt_start, btt_step and
+ * btt_write the table.
+ */
 
 /*
  * Reads a sector into a buffer of a sector's length, the handle's size: what the last finished write stored, or zeroes where the sector
- * was never written or its map word has bit 31 (Zero) alone; with bit 30 (Error) alone it is bad.
- * Answers 16, 9, 10, 7 and 18 (of that sector's map word), 15; a refusal leaves the buffer.
+ * was never written or its map word has bit 31 (Zero) alone; with bit 30 (Error) alone it is bad. Arena and table are not changed.
+ * Answers 16, 21, 16, 9, 10, 7 and 18 (of that sector's map word), 15; a refusal leaves the buffer.
  */
-uint32_t btt_read(const uint8_t *arena, size_t arena_length, const struct btt_handle *handle, uint32_t sector, uint8_t *buffer,
-                  size_t buffer_length);
+uint32_t btt_read(const uint8_t *arena, size_t arena_length, const struct btt_handle *handle, const struct btt_lane *table,
+                  size_t table_length, uint32_t sector, uint8_t *buffer, size_t buffer_length);
 
 /*
- * Starts a write to a sector on an idle lane. The arena is not changed; the lane's record remembers the write.
- * Answers 16, 11, 12, 9, 13, 7 and 18 (of that sector's map word); a refusal changes nothing.
+ * Starts a write to a sector on an idle lane. The arena is not changed; the lane's record in the table remembers the write.
+ * Answers 16, 21, 16, 11, 12, 9, 13, 7 and 18 (of that sector's map word); a refusal changes nothing.
  */
-uint32_t btt_start(const uint8_t *arena, size_t arena_length, struct btt_handle *handle, uint32_t lane, uint32_t sector);
+uint32_t btt_start(const uint8_t *arena, size_t arena_length, const struct btt_handle *handle, struct btt_lane *table, size_t table_length,
+                   uint32_t lane, uint32_t sector);
 
 /*
- * Makes the next store of the lane's write, one aligned word. After size / 4 + 5 steps the write is done and the lane idle. Give every
- * step of a write the same sector buffer: a step stores the one word of it whose turn it is, so each word of the sector is from the buffer
- * of its own step. Answers 16, 11, 14, 10; a refusal changes nothing.
+ * Makes the next store of the lane's write, one aligned word, and counts it in the lane's record. After size / 4 + 5 steps the write is
+ * done and the lane idle. Give every step of a write the same sector buffer: a step stores the one word of it whose turn it is, so each
+ * word of the sector is from the buffer of its own step. Answers 16, 21, 16, 11, 14, 10; a refusal changes nothing.
  */
-uint32_t btt_step(uint8_t *arena, size_t arena_length, struct btt_handle *handle, uint32_t lane, const uint8_t *buffer,
-                  size_t buffer_length);
+uint32_t btt_step(uint8_t *arena, size_t arena_length, const struct btt_handle *handle, struct btt_lane *table, size_t table_length,
+                  uint32_t lane, const uint8_t *buffer, size_t buffer_length);
 
 /*
- * Makes a whole write, a start and all its steps, in one call. It is refused before any store.
- * Answers 16, 11, 12, 9, 10, 13, 7 and 18 (of that sector's map word); a refusal changes nothing.
+ * Makes a whole write, a start and all its steps, in one call. It is refused before any store; of the table the lane's record is changed.
+ * Answers 16, 21, 16, 11, 12, 9, 10, 13, 7 and 18 (of that sector's map word); a refusal changes nothing.
  */
-uint32_t btt_write(uint8_t *arena, size_t arena_length, struct btt_handle *handle, uint32_t lane, uint32_t sector, const uint8_t *buffer,
-                   size_t buffer_length);
+uint32_t btt_write(uint8_t *arena, size_t arena_length, const struct btt_handle *handle, struct btt_lane *table, size_t table_length,
+                   uint32_t lane, uint32_t sector, const uint8_t *buffer, size_t buffer_length);
 
-/* A lane's record. Answers 16, 11; a refusal leaves *record. */
-uint32_t btt_lane_record(const uint8_t *arena, size_t arena_length, const struct btt_handle *handle, uint32_t lane, struct btt_lane *record);
+/* A copy of a lane's record, once handle and table are judged. Answers 16, 21, 16, 11; a refusal leaves *out. */
+uint32_t btt_lane_record(const uint8_t *arena, size_t arena_length, const struct btt_handle *handle, const struct btt_lane *table,
+                         size_t table_length, uint32_t lane, struct btt_lane *out);
 
 /*
  * The byte offset of the one word that the lane's next step will store, so that a host can flush just that line before the step after it.
- * Answers 16, 11, 14; a refusal leaves *offset.
+ * The table is only read. Answers 16, 21, 16, 11, 14; a refusal leaves *offset.
  */
-uint32_t btt_next_store(const uint8_t *arena, size_t arena_length, const struct btt_handle *handle, uint32_t lane, uint64_t *offset);
+uint32_t btt_next_store(const uint8_t *arena, size_t arena_length, const struct btt_handle *handle, const struct btt_lane *table,
+                        size_t table_length, uint32_t lane, uint64_t *offset);
 
 /*
  * Replays a run log on an arena: opens it and runs the log's records in order, as the calls above would be made. A log is at most 8,192
@@ -194,7 +238,7 @@ uint32_t btt_next_store(const uint8_t *arena, size_t arena_length, const struct 
  * Records are numbered from 0, all of them and on across kind 3. A record that is refused has its answer and does not end the replay. One
  * that is short, has another length than its kind, or is of another kind ends it with 20; what ran before stays. A log that is longer ends
  * with 20 at offset 0, after the opening.
- * No layout is told: every opening is in layout 16.
+ * No layout is told, and no table is lent: every opening is in layout 16, with a table of the library's own that is long enough.
  * The work buffer is as for btt_open. answers gets a byte for each record that ran, its answer; a short buffer gets the first that fit, all
  * else being as with a long one, and bytes past those are unchanged. *records is the number of records that ran, and *stopped the byte
  * offset at which the record begins that ended the replay, 0 if none did.
@@ -224,7 +268,7 @@ static inline const char *btt_answer_text(uint32_t answer)
         "another lane has that sector in flight",
         "the lane has no write in flight",
         "the sector is marked bad",
-        "the handle does not fit the arena or has a record out of range, or a layout is neither 16 nor 32"
+        "the handle does not fit the arena, or the record of a lane is out of range, or a layout is neither 16 nor 32"
     };
 
     if (answer == BTT_SLOPPY) {
@@ -232,6 +276,9 @@ static inline const char *btt_answer_text(uint32_t answer)
     }
     if (answer == BTT_BAD_RECORD) {
         return "a record of the log is short, of another length than its kind's or of no known kind, or the log is longer than 8,192 bytes";
+    }
+    if (answer == BTT_SHORT_TABLE) {
+        return "the table has fewer records than there are lanes";
     }
     return answer < sizeof text / sizeof text[0] ? text[answer] : "not an answer";
 }

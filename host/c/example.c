@@ -10,10 +10,12 @@
 
 enum { SIZE = 512, SECTORS = 60, LANES = 4, ALL_STORES = SIZE / 4 + 5 };
 
+/* An arena, its handle and the table of its lanes, which has room for the lanes of every arena. */
 struct disk {
     uint8_t *arena;
     size_t length;
     struct btt_handle handle;
+    struct btt_lane table[BTT_MAX_LANES];
 };
 
 #if defined(__x86_64__)
@@ -95,7 +97,7 @@ static void open_disk(struct disk *d)
     uint32_t mended;
     uint8_t *work = room(SECTORS + LANES);
 
-    must("open", btt_open(d->arena, d->length, work, SECTORS + LANES, BTT_LAYOUT_NEAR, &d->handle, &mended));
+    must("open", btt_open(d->arena, d->length, work, SECTORS + LANES, BTT_LAYOUT_NEAR, d->table, BTT_MAX_LANES, &d->handle, &mended));
     free(work);
     persist(d->arena + d->handle.map, 4 * (size_t)d->handle.sectors);
     printf("opened: %u sectors of %u bytes, %u mended\n", (unsigned)d->handle.sectors, (unsigned)d->handle.size, (unsigned)mended);
@@ -105,7 +107,7 @@ static void show(const struct disk *d, uint32_t sector)
 {
     uint8_t bytes[SIZE];
 
-    must("read", btt_read(d->arena, d->length, &d->handle, sector, bytes, sizeof bytes));
+    must("read", btt_read(d->arena, d->length, &d->handle, d->table, BTT_MAX_LANES, sector, bytes, sizeof bytes));
     printf("sector %u: \"%.*s\"\n", (unsigned)sector, SIZE, (const char *)bytes);
 }
 
@@ -115,7 +117,7 @@ static void write_whole(struct disk *d, uint32_t lane, uint32_t sector, const ch
     uint8_t bytes[SIZE] = {0};
 
     snprintf((char *)bytes, sizeof bytes, "%s", text);
-    must("write", btt_write(d->arena, d->length, &d->handle, lane, sector, bytes, sizeof bytes));
+    must("write", btt_write(d->arena, d->length, &d->handle, d->table, BTT_MAX_LANES, lane, sector, bytes, sizeof bytes));
 }
 
 /* The first stores of a write, each on the medium before the next: with ALL_STORES the write is done. */
@@ -125,10 +127,10 @@ static void write_flushed(struct disk *d, uint32_t lane, uint32_t sector, const 
     uint64_t offset;
 
     snprintf((char *)bytes, sizeof bytes, "%s", text);
-    must("start", btt_start(d->arena, d->length, &d->handle, lane, sector));
+    must("start", btt_start(d->arena, d->length, &d->handle, d->table, BTT_MAX_LANES, lane, sector));
     for (; stores > 0; stores--) {
-        must("next store", btt_next_store(d->arena, d->length, &d->handle, lane, &offset));
-        must("step", btt_step(d->arena, d->length, &d->handle, lane, bytes, sizeof bytes));
+        must("next store", btt_next_store(d->arena, d->length, &d->handle, d->table, BTT_MAX_LANES, lane, &offset));
+        must("step", btt_step(d->arena, d->length, &d->handle, d->table, BTT_MAX_LANES, lane, bytes, sizeof bytes));
         persist(d->arena + offset, 4);
     }
 }
@@ -137,12 +139,13 @@ static void write_flushed(struct disk *d, uint32_t lane, uint32_t sector, const 
 static void cut_power(struct disk *d)
 {
     memset(&d->handle, 0, sizeof d->handle);
+    memset(d->table, 0, sizeof d->table);
     printf("power cut\n");
 }
 
 int main(void)
 {
-    struct disk d;
+    static struct disk d;
     uint8_t bytes[SIZE];
     uint32_t answer;
 
@@ -165,7 +168,7 @@ int main(void)
     open_disk(&d);
     show(&d, 7);
 
-    answer = btt_read(d.arena, d.length, &d.handle, SECTORS, bytes, sizeof bytes);
+    answer = btt_read(d.arena, d.length, &d.handle, d.table, BTT_MAX_LANES, SECTORS, bytes, sizeof bytes);
     printf("sector %u: answer %u, %s\n", (unsigned)SECTORS, (unsigned)answer, btt_answer_text(answer));
     free(d.arena);
     return 0;

@@ -1,35 +1,31 @@
-// Opening and cut opening.
-use format::numbers::LaneNo;
+// Opening and cut opening, by the length of the table that is lent: the table itself is filled by the handle and the arena that are left.
 use judge::opening::judge;
-use lanes::found_lane;
 use layout::Figures;
 use layout::MAX_LANES;
 use layout::Told;
 use layout::alone;
-use machine::answer::Answer;
 use machine::handle::Handle;
 use machine::handle::no_handle;
-use machine::lane::Lane;
 use mend::mend;
 ghost use mathlib.Core.Path.{_≡_};
+ghost use Prim.Native.Nat.{_≤_};
 ghost use lib.ListN.{length};
 ghost use Rattle.layout.specs.Told.{alone};
-ghost use Rattle.machine.specs.state.Packed.{packedUp};
 ghost use Rattle.machine.specs.calls.Opening.{openNumber, openOf, cutOpenOf};
-ghost use Rattle.lanes.specs.Fit.{AllFit};
-ghost use Rattle.judge.specs.Judge.{judgedFigures};
-ghost use Rattle.arena.specs.Calls.{packedOpening, openGave, cutGave, handleRead};
+ghost use Rattle.judge.specs.Judge.{extent, judgedFigures};
+ghost use Rattle.lanes.specs.Filled.{LanesFit};
+ghost use Rattle.arena.specs.Calls.{ForTable, cutGave, OpenGives};
 
-// What opening gives: the answer, the number of pending lanes as found, and the handle (all zeroes on a refusal).
+// What opening gives beside the table: the answer's number, the number of pending lanes as found, and the handle (all zeroes on a refusal).
 pub struct Opened {
-    pub answer: Answer,
+    pub number: u32,
     pub mended: u32,
     pub handle: Handle,
 }
 
 // What a cut opening gives: no handle.
 pub struct CutOpened {
-    pub answer: Answer,
+    pub number: u32,
     pub mended: u32,
 }
 
@@ -40,18 +36,18 @@ struct Mending {
 }
 
 // Judges all as it is told, then makes the first k mending stores, or all if there are fewer.
-fn judge_and_mend(arena: &mut [u8], told: Told, work: &mut [u8], k: u32) -> Mending
-    ensures { λ r. ⌜ cutGave (r .opened) (now (arena .exit)) (now (work .exit))
-        ≡ cutOpenOf told (now (arena .entry)) (now (work .entry)) k ⌝ }
-    ensures { λ r. let n = openNumber told (now (arena .entry)) (length (now (work .entry))) in
+fn judge_and_mend(arena: &mut [u8], told: Told, work: &mut [u8], records: usize, k: u32) -> Mending
+    ensures { λ r. ⌜ ForTable (now (work .entry)) records (λ room. cutGave (r .opened) (now (arena .exit)) (now (work .exit)) (room .table)
+        ≡ cutOpenOf told (now (arena .entry)) room k) ⌝ }
+    ensures { λ r. let n = openNumber told (now (arena .entry)) (extent (length (now (work .entry))) records) in
         ⌜ r .figures ≡ judgedFigures n (now (arena .entry)) ⌝ }
 {
-    let judged = judge(&arena[..], told, work);
+    let judged = judge(&arena[..], told, work, records);
     let f = judged.figures;
     let answer = judged.answer;
     if !answer.is_done() {
         let opened = CutOpened {
-            answer: answer,
+            number: answer.number(),
             mended: 0,
         };
         return Mending {
@@ -61,7 +57,7 @@ fn judge_and_mend(arena: &mut [u8], told: Told, work: &mut [u8], k: u32) -> Mend
     }
     let mended = mend(arena, f, told.distance, k);
     let opened = CutOpened {
-        answer: answer,
+        number: 0,
         mended: mended,
     };
     Mending {
@@ -70,55 +66,46 @@ fn judge_and_mend(arena: &mut [u8], told: Told, work: &mut [u8], k: u32) -> Mend
     }
 }
 
-// A cut opening: told k, it is refused as opening is, and else makes the first k of opening's stores.
-pub fn cut_open(arena: &mut [u8], work: &mut [u8], distance: u32, k: u32) -> CutOpened
-    ensures { λ r. ⌜ cutGave r (now (arena .exit)) (now (work .exit))
-        ≡ cutOpenOf (alone distance) (now (arena .entry)) (now (work .entry)) k ⌝ }
+// A cut opening: told k, it is refused as opening is, and else makes the first k of opening's stores; of the table it asks the length alone.
+pub fn cut_open(
+    arena: &mut [u8],
+    work: &mut [u8],
+    distance: u32,
+    records: usize,
+    k: u32,
+) -> CutOpened
+    ensures { λ r. ⌜ ForTable (now (work .entry)) records (λ room. cutGave r (now (arena .exit)) (now (work .exit)) (room .table)
+        ≡ cutOpenOf (alone distance) (now (arena .entry)) room k) ⌝ }
 {
-    let m = judge_and_mend(arena, alone(distance), work, k);
+    let m = judge_and_mend(arena, alone(distance), work, records, k);
     m.opened
 }
 
-// The handle of an opened arena, read off its flog.
-fn handle_of(a: &[u8], f: Figures, d: u32) -> Handle
-    requires { ⌜ AllFit d f (now a) ⌝ }
-    ensures { λ r. ⌜ r ≡ packedUp (handleRead d f (now (a .entry))) ⌝ }
+// Opens an arena in the layout whose halves start so far apart: judges all, mends the pending lanes through the cut opening, and gives the
+// handle; the lanes of that handle can be read off the flog.
+pub fn open(arena: &mut [u8], work: &mut [u8], distance: u32, records: usize) -> Opened
+    ensures { λ r. ⌜ ForTable (now (work .entry)) records (λ room. OpenGives r (now (arena .exit)) (now (work .exit)) (room .table)
+        (openOf (alone distance) (now (arena .entry)) room)) ⌝ }
+    ensures { λ r. ⌜ LanesFit (r .handle) (now (arena .exit)) × (r .handle .figures .lanes ≤ records) ⌝ }
 {
-    let none = Lane::none();
-    let mut lanes = [none; 16];
-    let mut l: u32 = 0;
-    while l < f.lanes {
-        let found = found_lane(a, f, d, LaneNo(l));
-        lanes[l as usize] = found;
-        l += 1;
-    }
-    Handle {
-        length: a.len() as u64,
-        distance: d,
-        figures: f,
-        lanes: lanes,
-    }
-}
-
-// Opens an arena in the layout whose halves start so far apart: judges all, mends the pending lanes through the cut opening, and gives the handle.
-pub fn open(arena: &mut [u8], work: &mut [u8], distance: u32) -> Opened
-    ensures { λ r. ⌜ openGave r (now (arena .exit)) (now (work .exit))
-        ≡ packedOpening (openOf (alone distance) (now (arena .entry)) (now (work .entry))) ⌝ }
-{
-    let told = alone(distance);
-    let m = judge_and_mend(arena, told, work, MAX_LANES);
+    let m = judge_and_mend(arena, alone(distance), work, records, MAX_LANES);
     let opened = m.opened;
-    let answer = opened.answer;
-    if !answer.is_done() {
+    if opened.number != 0 {
         return Opened {
-            answer: answer,
+            number: opened.number,
             mended: opened.mended,
             handle: no_handle(),
         };
     }
+    let figures = m.figures;
+    let handle = Handle {
+        length: arena.len() as u64,
+        distance: distance,
+        figures: figures,
+    };
     Opened {
-        answer: answer,
+        number: 0,
         mended: opened.mended,
-        handle: handle_of(&arena[..], m.figures, told.distance),
+        handle: handle,
     }
 }

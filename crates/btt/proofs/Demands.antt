@@ -4,7 +4,7 @@ use mathlib.Core.List.{List, [], _∷_}
 use Prim.Native.Nat.{ℕ}
 use Rattle.words.specs.Bytes.{Small}
 use Rattle.layout.specs.Told.{alone}
-use Rattle.machine.specs.calls.Opening.{figuresIn, openOf}
+use Rattle.machine.specs.calls.Opening.{Room, figuresIn, openOf}
 use Rattle.machine.specs.calls.History.{Call, read, start, step, write, State, Event, SmallEvents, openedFrom}
 use Rattle.machine.specs.calls.Asides.{Happening, latest, latestOf, afterOne, AllHarmless}
 use Rattle.machine.specs.models.Row.{Keeping, wordByWord, lastBuffer, OneBuffer, firstRow}
@@ -18,7 +18,8 @@ use Rattle.machine.proofs.row.DemandTwo.{demand-two}
 use Rattle.machine.proofs.book.DemandThree.{demand-three}
 use Rattle.machine.specs.claims.Rest.{RestKept}
 use Rattle.machine.proofs.calls.Rest.{rest-of-blocks}
-use Rattle.btt.specs.Calls.{handleIn, bttOf, bttOpenOf}
+use Rattle.handlebytes.specs.Bytes.{decodeHandle}
+use Rattle.btt.specs.Calls.{handleIn, bttOpenOf, bttStartOf, bttStepOf, bttWriteOf}
 use Rattle.btt.specs.HostList.{HostState, openedHost, hostAfter, StandsFor, SameEvents}
 use Rattle.btt.specs.HostDemands.{HostFollowsRow, HostBooked, HostPromised, HostDemands}
 use Rattle.btt.proofs.Fits.{layout-held}
@@ -41,35 +42,35 @@ unfolding plain
 plain-harmless d [] x = tt
 plain-harmless d (e ∷ es) x = (tt, plain-harmless d es (afterOne (alone d) x (latest e)))
 
-module _ (d : ℕ) (a work : List ℕ) (es : List Event) (small : Small a) (small-events : SmallEvents es) (z : (openOf (alone d) a work) .number ≡ 0) where
+module _ (d : ℕ) (a : List ℕ) (room : Room) (es : List Event) (small : Small a) (small-events : SmallEvents es) (z : (openOf (alone d) a room) .number ≡ 0) where
   abbrev x : State
-  x = openedFrom (alone d) a work
+  x = openedFrom (alone d) a room
 
   smalls : SmallEvents (latestOf (plain es))
   smalls = rw (plain-latest es) small-events
 
-  same : SameEvents d (openedHost (bttOpenOf d a work)) x es
+  same : SameEvents d (openedHost (bttOpenOf d a room)) x es
   same =
-      events-same d (openedHost (bttOpenOf d a work)) x es (first-same d a work small z)
-      (held-small (alone d) x (held-open (alone d) a work small z))
+      events-same d (openedHost (bttOpenOf d a room)) x es (first-same d a room small z)
+      (held-small (alone d) x (held-open (alone d) a room small z))
 
   -- whatever the row keeps, the host follows it where the machine does
-  host-follows : (keep : Keeping) → FollowsRow keep (alone d) a work (plain es) → HostFollowsRow keep d a work es
+  host-follows : (keep : Keeping) → FollowsRow keep (alone d) a room (plain es) → HostFollowsRow keep d a room es
   host-follows keep follows =
       let heard = rw (plain-latest es) at (latest-heard (alone d) (plain es) x (plain-harmless d es x)) in
       let left = rw (plain-latest es) at (latest-state (alone d) (plain es) x (plain-harmless d es x)) in
       record {
         replies = same .replies ∙ sym heard ∙ (rw (plain-latest es) at (follows .replies));
-        reads = λ s buffer. read-same _ _ _ s buffer (same .leaves .handle)
+        reads = λ s buffer. read-same _ _ _ _ s buffer (record { handle = same .leaves .handle; table = same .leaves .table })
             ∙ rw (same .leaves .arena) (rw (left, plain-latest es) at (follows .reads s buffer));
         layout = layout-held _ _ (same .leaves .handle) ∙ (rw left at (follows .layout));
       }
 
-  host-words : HostFollowsRow wordByWord d a work es
-  host-words = host-follows wordByWord (demand-two .words d a work (plain es) small smalls z (plain-harmless d es x))
+  host-words : HostFollowsRow wordByWord d a room es
+  host-words = host-follows wordByWord (demand-two .words d a room (plain es) small smalls z (plain-harmless d es x))
 
-  host-one : OneBuffer (figuresIn a) (firstRow (openedFrom (alone d) a work)) es → HostFollowsRow lastBuffer d a work es
-  host-one one = host-follows lastBuffer (demand-two .follows d a work (plain es) small smalls z (plain-harmless d es x) (rw (plain-latest es) one))
+  host-one : OneBuffer (figuresIn a) (firstRow (openedFrom (alone d) a room)) es → HostFollowsRow lastBuffer d a room es
+  host-one one = host-follows lastBuffer (demand-two .follows d a room (plain es) small smalls z (plain-harmless d es x) (rw (plain-latest es) one))
 
 -- ---- demand 3
 
@@ -86,23 +87,23 @@ module _ (d : ℕ) (y : HostState) (x : State) (cs : List Call) (bytes : ℕ →
   host-promised = record {
     booked = λ p rest e. host-booked p (promised .booked p rest e);
     cut-booked = λ p rest e. host-booked p (promised .cut-booked p rest e);
-    cut = λ p rest e work u.
-        subst (λ (a : List ℕ). AfterCut (alone d) (x .arena) (x .handle) bytes a (bookAfter (alone d) (x .arena) [] p) work)
-        (sym (calls-same y x p k .leaves .arena)) (promised .cut p rest e work u);
+    cut = λ p rest e room u.
+        subst (λ (a : List ℕ). AfterCut (alone d) (x .arena) (x .handle) bytes a (bookAfter (alone d) (x .arena) [] p) room)
+        (sym (calls-same y x p k .leaves .arena)) (promised .cut p rest e room u);
   }
 
 -- ---- the rest of a block: a host's call leaves the machine's arena
 
-host-rest : (y : HostState) (c : Call) → Small (y .arena) → RestKept (handleIn (y .handle) .figures) (y .arena) ((hostAfter y c) .arena)
-unfolding bttOf
-host-rest y (read s buffer) small = rest-of-blocks .calls (y .arena) (handleIn (y .handle)) (read s buffer) small
-host-rest y (start l s) small = rest-of-blocks .calls (y .arena) (handleIn (y .handle)) (start l s) small
-host-rest y (step l buffer) small = rest-of-blocks .calls (y .arena) (handleIn (y .handle)) (step l buffer) small
-host-rest y (write l s buffer) small = rest-of-blocks .calls (y .arena) (handleIn (y .handle)) (write l s buffer) small
+host-rest : (y : HostState) (c : Call) → Small (y .arena) → RestKept (decodeHandle (y .handle) .figures) (y .arena) ((hostAfter y c) .arena)
+unfolding bttStartOf bttStepOf bttWriteOf
+host-rest y (read s buffer) small = rest-of-blocks .calls (y .arena) (handleIn (y .handle) (y .table)) (read s buffer) small
+host-rest y (start l s) small = rest-of-blocks .calls (y .arena) (handleIn (y .handle) (y .table)) (start l s) small
+host-rest y (step l buffer) small = rest-of-blocks .calls (y .arena) (handleIn (y .handle) (y .table)) (step l buffer) small
+host-rest y (write l s buffer) small = rest-of-blocks .calls (y .arena) (handleIn (y .handle) (y .table)) (write l s buffer) small
 
-host-rest-opening : (d : ℕ) (a work : List ℕ) → Small a → RestKept (figuresIn a) a ((bttOpenOf d a work) .arena)
+host-rest-opening : (d : ℕ) (a : List ℕ) (room : Room) → Small a → RestKept (figuresIn a) a ((bttOpenOf d a room) .arena)
 unfolding bttOpenOf
-host-rest-opening d a work small = rest-of-blocks .opening d a work small
+host-rest-opening d a room small = rest-of-blocks .opening d a room small
 
 pub host-demands : HostDemands
 host-demands = record { two-words = host-words; two = host-one; three = host-promised; rest = host-rest; rest-opening = host-rest-opening }

@@ -1,7 +1,10 @@
-pub mod Rules
 pub mod Laws
+pub mod Looks
+pub mod Opened
+pub mod Covered
 pub mod Fits
 pub mod Same
+pub mod Alike
 pub mod Shown
 pub mod Listing
 pub mod Demands

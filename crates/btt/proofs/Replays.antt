@@ -1,6 +1,7 @@
 -- A replay for a host: its definition from what the code gives, and what the claim says of it.
 use mathlib.Core.Path.{_≡_, refl, ap, _∙_}
 use mathlib.Core.Logic.{_≢_}
+use mathlib.Core.Bool.{Bool, true, false}
 use mathlib.Core.List.{List, [], _∷_}
 use Prim.Native.Nat.{ℕ, zero, suc, _≤_, _<_}
 use native.Mathlib.Omega.{arith}
@@ -8,15 +9,14 @@ use lib.ListN.{length, getD}
 use borrow.Author.Tests.{ne-eqb}
 use Rattle.words.specs.Bytes.{Small}
 use Rattle.layout.specs.Told.{aloneNear}
-use Rattle.machine.specs.state.Answer.{numberOf}
 use Rattle.machine.specs.calls.Opening.{openOf}
 use Rattle.runlog.specs.Log.{Log}
 use Rattle.runlog.proofs.Logs.{log-claim}
 use Rattle.replaying.specs.declared.Replayed.{Replayed}
-use Rattle.replaying.specs.Replay.{replayOf}
+use Rattle.replaying.specs.Replay.{replayOf, ownTable, roomOf}
 use Rattle.replaying.specs.Gave.{putAnswers, Given, into, gave}
 use Rattle.replaying.proofs.Claimed.{replay-claim}
-use Rattle.replaying.proofs.Outcomes.{put-nothing}
+use Rattle.replaying.proofs.Rest.{put-nothing}
 use Rattle.btt.specs.Replay.{HostReplay, replayNumber, bttReplayOf}
 use Rattle.btt.specs.Gave as host
 use Rattle.btt.specs.HostReplay as claim
@@ -28,7 +28,7 @@ forHost g = host.replayed (replayNumber (g .first) (g .stopped)) (g .records) (g
 
 pub replay-call : (a work log answers : List ℕ) (r : Replayed) (arena left put : List ℕ)
     → gave r arena left put ≡ into (replayOf a work log) answers
-    → (n : ℕ) → n ≡ replayNumber (numberOf (r .first)) (r .stopped)
+    → (n : ℕ) → n ≡ replayNumber (r .first) (r .stopped)
     → host.replayed n (r .records) (r .at) arena left put ≡ bttReplayOf a work log answers
 unfolding bttReplayOf
 replay-call a work log answers r arena left put e n k = rw k (ap forHost e)
@@ -54,13 +54,13 @@ put-past (n ∷ ns) (b ∷ bs) (suc i) u = put-past ns bs i (omega arith)
 
 -- ---- the claim
 
-pub nothing-ran : (a work log answers : List ℕ) → (openOf aloneNear a work) .number ≢ 0
+pub nothing-ran : (a work log answers : List ℕ) → (openOf aloneNear a (roomOf work ownTable)) .number ≢ 0
     → claim.NothingRan a work answers (bttReplayOf a work log answers)
 unfolding bttReplayOf
 nothing-ran a work log answers n =
     let q = replay-claim .refused a work log n in
     record {
-      number = rw (q .first, ne-eqb ((openOf aloneNear a work) .number) 0 n);
+      number = rw (q .first, ne-eqb ((openOf aloneNear a (roomOf work ownTable)) .number) 0 n);
       records = ap (λ (ns : List ℕ). length ns) (q .numbers);
       stopped = q .at;
       arena = q .arena;
@@ -68,7 +68,7 @@ nothing-ran a work log answers n =
       answers = rw (q .numbers) (put-nothing answers);
     }
 
-pub records-ran : (a work log answers : List ℕ) → Small a → Small work → Small log → (openOf aloneNear a work) .number ≡ 0
+pub records-ran : (a work log answers : List ℕ) → Small a → Small work → Small log → (openOf aloneNear a (roomOf work ownTable)) .number ≡ 0
     → claim.RecordsRan a work log answers (bttReplayOf a work log answers)
 unfolding bttReplayOf
 records-ran a work log answers small small-work small-log e =
@@ -90,3 +90,12 @@ records-ran a work log answers small small-work small-log e =
       arena = p .arena;
       work = p .buffer;
     }
+
+pub never-short : (a work log answers : List ℕ) → (bttReplayOf a work log answers) .number ≢ 21
+unfolding bttReplayOf
+never-short a work log answers e = go ((replayOf a work log) .first) ((replayOf a work log) .stopped) (replay-claim .long a work log) e
+  where
+    go : (n : ℕ) (t : Bool) → n ≢ 21 → replayNumber n t ≢ 21
+    go zero true k f = omega arith
+    go zero false k f = omega arith
+    go (suc n) t k f = k (rw (ne-eqb (suc n) 0 (λ e. omega arith)) at f)

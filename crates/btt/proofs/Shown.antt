@@ -1,19 +1,18 @@
--- What a refused call leaves, how little of the handle's bytes an accepted one changes, what a wrong busy word and a wrong layout do, and that what a host
--- is shown is so: the info block's place, a lane's record, and where the next step stores.
+-- What a refused call leaves, what a wrong layout, a short table and a wrong busy word do, and that what a host is shown is so: the info block's
+-- place, a lane's record, and where the next step stores.
 use mathlib.Core.Path.{_≡_, refl, sym, ap, _∙_}
-use mathlib.Core.Logic.{_≢_, _⊎_, inl, inr, ⊎-elim}
+use mathlib.Core.Logic.{_≢_, ⊎-elim}
 use mathlib.Core.Bool.{Bool, true, false, not, cond}
 use mathlib.Core.List.{List, []}
-use Prim.Native.Nat.{ℕ, zero, suc, _+_, _-_, _*_, _/_, _≤_, _<_}
+use Prim.Native.Nat.{ℕ, zero, suc, _-_, _/_, _≤_, _<_}
 use native.Mathlib.Omega.{arith}
-use lib.Dec.{eqb, ltb}
-use lib.ListN.{length, getD, take, drop, length-drop}
+use lib.Dec.{ltb}
+use lib.ListN.{length, take, drop, length-drop}
 use lib.Seq.{take-all}
-use borrow.Author.Tests.{eq-eqb, ne-eqb}
-use Rattle.words.proofs.Laws.{getD-putWord-other}
-use Rattle.words.proofs.Runs.{getD-putWords-out}
+use borrow.Author.Tests.{lt-ltb, le-ltb, lt-leb, eq-eqb, ne-eqb}
 use Rattle.words.specs.Bytes.{Small, byteWord}
-use Rattle.reading.proofs.Copies.{copied}
+use Rattle.words.proofs.Laws.{getD-putWord-other}
+use Rattle.words.proofs.Runs.{length-putWords, putWords-bytes}
 use Rattle.format.proofs.Tests.{by-bool}
 use Rattle.infoblock.specs.Info.{sound, infoBlockOf, countsOf}
 use Rattle.infoblock.specs.Claims.{Sound}
@@ -22,26 +21,29 @@ use Rattle.judge.specs.Judge.{infoPartOf}
 use Rattle.judge.proofs.Parts.{main-part, copy-part, no-part}
 use Rattle.layout.specs.Figures.{lengthAllowed}
 use Rattle.layout.specs.Claims.{Length}
-use Rattle.layout.specs.Place.{Layout, at}
-use Rattle.machine.specs.Rules.{FirstOf}
-use Rattle.machine.specs.state.Handle.{Handle, laneAt, laidOut, handleAllowed}
-use Rattle.machine.specs.calls.Order.{read, start, step, write, number}
-use Rattle.machine.specs.calls.Reading.{readOf}
-use Rattle.machine.specs.calls.Writing.{Outcome, Plan, planOf, storeAt, stepNumber, startOf, stepOf, writeOf}
-use Rattle.machine.specs.words.Running.{Holds}
+use Rattle.layout.specs.Place.{Layout, layoutOf, at}
 use Rattle.machine.specs.declared.lane.Lane.{Lane}
+use Rattle.machine.specs.Rules.{FirstOf}
+use Rattle.machine.specs.state.Handle.{Handle, bareOf, laneAt, laidOut, handleAllowed, tableShort, recordsAllowed}
+use Rattle.machine.specs.calls.Judging.{tests, callNumber}
+use Rattle.machine.specs.calls.Order.{Rule, read, start, step, write, number, tableRules}
+use Rattle.machine.specs.calls.Reading.{readOf}
+use Rattle.machine.specs.calls.Writing.{Plan, planOf, storeAt, stepNumber, startOf, stepOf, writeOf, Outcome}
+use Rattle.machine.specs.words.Running.{HandleOk, Holds}
+use Rattle.machine.specs.claims.Running.{AsTheyCame}
 use Rattle.machine.proofs.opening.Reflect.{length-ok, ok-length, main-small, copy-small}
-use Rattle.machine.proofs.rules.Rules.{stop}
-use Rattle.machine.proofs.rules.Running.{call-walk}
-use Rattle.machine.proofs.calls.Rule16.{lane-taken}
-use Rattle.machine.proofs.calls.Running.{handle-ok, first-holds, running-claim}
-use Rattle.handlebytes.specs.Bytes.{recordAt, decodeHandle, recordWords}
-use Rattle.handlebytes.proofs.Offsets.{head-at, lane-from}
-use Rattle.handlebytes.proofs.Round.{record-again}
+use Rattle.machine.proofs.rules.Rules.{Walk, walked, stop, pass, through}
+use Rattle.machine.proofs.calls.Accepted.{step-found}
+use Rattle.machine.proofs.calls.Running.{handle-ok, ok-handle, handle-fit, records-ok, first-holds, running-claim}
+use Rattle.handlebytes.specs.Bytes.{recordWords}
+use Rattle.handlebytes.specs.Stands.{RecordFits}
+use Rattle.handlebytes.proofs.Offsets.{head-at}
+use Rattle.handlebytes.proofs.Round.{record-stored}
 use Rattle.btt.specs.Calls.{span, partSpan, bttInfoBlockOf, handleIn, bttReadOf, bttOf, bttStartOf, bttStepOf, bttWriteOf}
-use Rattle.btt.specs.Calls.{laneOrder, nextOrder, laneNumber, bttLaneOf, nextNumber, nextOffset, bttNextStoreOf}
-use Rattle.btt.specs.Host.{HoldsHandle, InfoPlace, Untouched, AllBadHandle, OnlyAt, ToldPlace}
-use Rattle.btt.proofs.Rules.{few, lane-found, lane-walk, next-walk, step-next}
+use Rattle.btt.specs.Calls.{laneOrder, nextOrder, laneNumber, laneShown, bttLaneOf, nextNumber, nextOffset, nextShown, bttNextStoreOf}
+use Rattle.btt.specs.Host.{LentFor, lanesIn, InfoPlace, Untouched, AllAnswer, AllBadHandle, AllShortTable, RecordShown, OnlyAt, ToldPlace}
+use Rattle.btt.proofs.Looks.{LaneFound, lane-found}
+use Rattle.btt.proofs.Same.{held, lanes-held}
 
 -- ---- the info block
 
@@ -96,107 +98,124 @@ module _ (a : List ℕ) (small : Small a) where
 
 -- ---- refusals
 
-pub read-left : (a b : List ℕ) (s : ℕ) (buffer : List ℕ) → (bttReadOf a b s buffer) .number ≢ 0 → (bttReadOf a b s buffer) .buffer ≡ buffer
-unfolding bttReadOf
-read-left a b s buffer z = running-claim .read-refused a (handleIn b) s buffer z
+module _ (a b : List ℕ) (t : List Lane) where
+  pub read-left : (s : ℕ) (buffer : List ℕ) → (bttReadOf a b t s buffer) .number ≢ 0 → (bttReadOf a b t s buffer) .buffer ≡ buffer
+  unfolding bttReadOf
+  read-left s buffer z = running-claim .read-refused a (handleIn b t) s buffer z
 
-module _ (a b : List ℕ) (l : ℕ) where
-  left : (o : Outcome) → (o .number ≢ 0 → o .arena ≡ a) → (bttOf b l o) .number ≢ 0 → Untouched a b (bttOf b l o)
-  unfolding bttOf
-  left o r z = record { arena = r z; handle = rw (ne-eqb (o .number) 0 z) }
+  left : (o : Outcome) → AsTheyCame a (handleIn b t) o → Untouched a t (bttOf o)
+  left o r = record { arena = r .arena; table = ap (λ (x : Handle). x .table) (r .handle) }
 
-  pub start-left : (s : ℕ) → (bttStartOf a b l s) .number ≢ 0 → Untouched a b (bttStartOf a b l s)
-  start-left s = left _ (λ n. running-claim .start-refused a (handleIn b) l s n .arena)
+  pub start-left : (l s : ℕ) → (bttStartOf a b t l s) .number ≢ 0 → Untouched a t (bttStartOf a b t l s)
+  unfolding bttStartOf
+  start-left l s z = left _ (running-claim .start-refused a (handleIn b t) l s z)
 
-  pub step-left : (buffer : List ℕ) → (bttStepOf a b l buffer) .number ≢ 0 → Untouched a b (bttStepOf a b l buffer)
-  step-left buffer = left _ (λ n. running-claim .step-refused a (handleIn b) l buffer n .arena)
+  pub step-left : (l : ℕ) (buffer : List ℕ) → (bttStepOf a b t l buffer) .number ≢ 0 → Untouched a t (bttStepOf a b t l buffer)
+  unfolding bttStepOf
+  step-left l buffer z = left _ (running-claim .step-refused a (handleIn b t) l buffer z)
 
-  pub write-left : (s : ℕ) (buffer : List ℕ) → (bttWriteOf a b l s buffer) .number ≢ 0 → Untouched a b (bttWriteOf a b l s buffer)
-  write-left s buffer = left _ (λ n. running-claim .write-refused a (handleIn b) l s buffer n .arena)
+  pub write-left : (l s : ℕ) (buffer : List ℕ) → (bttWriteOf a b t l s buffer) .number ≢ 0 → Untouched a t (bttWriteOf a b t l s buffer)
+  unfolding bttWriteOf
+  write-left l s buffer z = left _ (running-claim .write-refused a (handleIn b t) l s buffer z)
 
-module _ (a b : List ℕ) (l : ℕ) where
-  pub lane-left : (out : List ℕ) → (bttLaneOf a b l out) .number ≢ 0 → (bttLaneOf a b l out) .out ≡ out
-  unfolding bttLaneOf
-  lane-left out z = rw (ne-eqb (laneNumber a (handleIn b) l) 0 z)
+  pub lane-left : (l : ℕ) (out : List ℕ) → (bttLaneOf a b t l out) .number ≢ 0 → (bttLaneOf a b t l out) .out ≡ out
+  unfolding laneShown
+  lane-left l out z = rw (ne-eqb (laneNumber a (handleIn b t) l) 0 z)
 
-  pub next-left : (offset : ℕ) → (bttNextStoreOf a b l offset) .number ≢ 0 → (bttNextStoreOf a b l offset) .offset ≡ offset
-  unfolding bttNextStoreOf
-  next-left offset z = rw (ne-eqb (nextNumber a (handleIn b) l) 0 z)
+  pub next-left : (l offset : ℕ) → (bttNextStoreOf a b t l offset) .number ≢ 0 → (bttNextStoreOf a b t l offset) .offset ≡ offset
+  unfolding nextShown
+  next-left l offset z = rw (ne-eqb (nextNumber a (handleIn b t) l) 0 z)
 
--- ---- handles that rule 16 refuses
+-- ---- what one of the first three rules refuses, every call refuses
 
-module _ (a b : List ℕ) (not-allowed : handleAllowed (handleIn b) (length a) ≡ false) where
-  all-bad : AllBadHandle a b
-  unfolding bttReadOf bttOf bttLaneOf bttNextStoreOf readOf startOf stepOf writeOf
-  all-bad =
-      let e = ap not not-allowed in
-      record {
-        read = λ s buffer. sym (call-walk a (handleIn b) (read s buffer) (stop e));
-        start = λ k s. sym (call-walk a (handleIn b) (start k s) (stop e));
-        step = λ k buffer. sym (call-walk a (handleIn b) (step k buffer) (stop e));
-        write = λ k s buffer. sym (call-walk a (handleIn b) (write k s buffer) (stop e));
-        lane = λ k out. sym (lane-walk a (handleIn b) k (stop e));
-        next-store = λ k offset. sym (next-walk a (handleIn b) k (stop e));
-      }
+module _ (a b : List ℕ) (t : List Lane) where
+  abbrev h : Handle
+  h = handleIn b t
 
--- a layout other than 16 and 32
-pub layout-wrong : (a b : List ℕ) → byteWord b 60 ≢ 16 → byteWord b 60 ≢ 32 → AllBadHandle a b
-layout-wrong a b m n = all-bad a b (by-bool (handleAllowed (handleIn b) (length a)) _
-    (λ t. absurd (⊎-elim (λ e. m (sym (head-at b .layout) ∙ e)) (λ e. n (sym (head-at b .layout) ∙ e)) (handle-ok (handleIn b) (length a) t .distance)))
-    (λ t. t))
+  all-answer : (n : ℕ) → ((rules : List Rule) → Walk number (tests a h) (tableRules rules) n) → AllAnswer n a b t
+  unfolding bttReadOf bttStartOf bttStepOf bttWriteOf laneShown laneNumber nextShown nextNumber readOf startOf stepOf writeOf callNumber
+  all-answer n w = record {
+    read = λ s buffer. sym (walked (w _));
+    start = λ l s. sym (walked (w _));
+    step = λ l buffer. sym (walked (w _));
+    write = λ l s buffer. sym (walked (w _));
+    lane = λ l out. sym (walked (w _));
+    next-store = λ l offset. sym (walked (w _));
+  }
 
--- a busy word other than 0 and 1
-module _ (a b : List ℕ) (l : ℕ) (u : l < 16) (m : l < byteWord b 56) (w : 2 ≤ byteWord b (64 + 28 * l)) where
-  v : l < (decodeHandle b) .figures .lanes
-  v = rw (head-at b .lanes) m
+  all-bad : handleAllowed (bareOf h) (length a) ≡ false → AllBadHandle a b t
+  all-bad e = all-answer 16 (λ rules. stop (ap not e))
 
-  -- the record that the handle has for the lane
-  busy-is : laneAt ((handleIn b) .lanes) l .busy ≡ byteWord b (64 + 28 * l)
-  busy-is =
-      ap (λ (r : Lane). r .busy) (lane-taken ((decodeHandle b) .lanes) ((decodeHandle b) .figures .lanes) l v) ∙ lane-from b l u .busy
+  -- a layout other than 16 and 32
+  pub layout-wrong : byteWord b 60 ≢ 16 → byteWord b 60 ≢ 32 → AllBadHandle a b t
+  layout-wrong m n = all-bad (by-bool (handleAllowed (bareOf h) (length a)) _
+      (λ e. absurd (⊎-elim (λ x. m (sym (head-at b .layout) ∙ x)) (λ x. n (sym (head-at b .layout) ∙ x)) (handle-ok h (length a) e .distance)))
+      (λ e. e))
 
-  not-allowed : handleAllowed (handleIn b) (length a) ≡ false
-  not-allowed =
-      by-bool (handleAllowed (handleIn b) (length a)) _
-      (λ t. let k = handle-ok (handleIn b) (length a) t .lanes l v in
-      absurd (⊎-elim (λ x. omega (arith, busy-is)) (λ x. omega (arith, busy-is)) (k .busy)))
-      (λ t. t)
+  -- a table shorter than the lanes
+  pub table-short : HandleOk h (length a) → length t < lanesIn b → AllShortTable a b t
+  unfolding tableShort
+  table-short ok u =
+      let v : length t < h .figures .lanes = rw (lanes-held b) u in
+      all-answer 21 (λ rules. pass (ap not (ok-handle h (length a) ok)) (stop (lt-ltb _ _ v)))
 
-  pub busy-wrong : AllBadHandle a b
-  busy-wrong = all-bad a b not-allowed
+  -- a busy word other than 0 and 1
+  pub busy-wrong : (l : ℕ) → lanesIn b ≤ length t → l < lanesIn b → 2 ≤ (laneAt t l) .busy → AllBadHandle a b t
+  unfolding tableShort
+  busy-wrong l long u w = by-bool (handleAllowed (bareOf h) (length a)) (AllBadHandle a b t)
+      (λ e. all-answer 16 (λ rules. pass (ap not e) (pass enough (stop (ap not records)))))
+      all-bad
+    where
+      m : l < h .figures .lanes
+      m = rw (lanes-held b) u
 
--- ---- what an accepted call changes of the handle's bytes
+      enough : tableShort h ≡ false
+      enough = let v : h .figures .lanes ≤ length t = rw (lanes-held b) long in le-ltb _ _ v
 
-pub record-only : (b : List ℕ) (l : ℕ) (o : Outcome) → OnlyAt (64 + 28 * l) 28 b ((bttOf b l o) .handle)
-unfolding bttOf recordWords
-record-only b l o j h =
-    let out : (j < 4 * recordAt l) ⊎ (4 * (recordAt l + 7) ≤ j) = ⊎-elim (λ x. inl (omega arith)) (λ x. inr (omega arith)) h in
-    by-bool (eqb (o .number) 0) (getD ((bttOf b l o) .handle) j 0 ≡ getD b j 0)
-    (λ t. rw t (getD-putWords-out (recordWords (laneAt (o .handle .lanes) l)) b (recordAt l) j out)) (λ t. rw t)
+      records : recordsAllowed h ≡ false
+      records = by-bool (recordsAllowed h) _
+          (λ e. absurd (⊎-elim (λ x. omega arith) (λ x. omega arith) (records-ok h e l m .busy)))
+          (λ e. e)
 
 -- ---- a lane's record
 
-pub lane-answered : (a b : List ℕ) (h : Handle) (l : ℕ) (out : List ℕ) → HoldsHandle b h
-    → FirstOf number (Holds a h) (laneOrder l) ((bttLaneOf a b l out) .number)
-unfolding bttLaneOf laneNumber
-lane-answered a b h l out s = rw (s .is) (first-holds a h (laneOrder l))
+pub lane-answered : (a b : List ℕ) (t : List Lane) (h : Handle) (l : ℕ) (out : List ℕ) → LentFor b t h
+    → FirstOf number (Holds a h) (laneOrder l) ((bttLaneOf a b t l out) .number)
+unfolding laneShown laneNumber
+lane-answered a b t h l out k = rw (held b t h k) (first-holds a h (laneOrder l))
 
-pub next-answered : (a b : List ℕ) (h : Handle) (l offset : ℕ) → HoldsHandle b h
-    → FirstOf number (Holds a h) (nextOrder l) ((bttNextStoreOf a b l offset) .number)
-unfolding bttNextStoreOf nextNumber
-next-answered a b h l offset s = rw (s .is) (first-holds a h (nextOrder l))
+pub next-answered : (a b : List ℕ) (t : List Lane) (h : Handle) (l offset : ℕ) → LentFor b t h
+    → FirstOf number (Holds a h) (nextOrder l) ((bttNextStoreOf a b t l offset) .number)
+unfolding nextShown nextNumber
+next-answered a b t h l offset k = rw (held b t h k) (first-holds a h (nextOrder l))
 
-pub lane-shown : (a b : List ℕ) (h : Handle) (l : ℕ) (out : List ℕ) → HoldsHandle b h → Small out → length out ≡ 28
-    → (bttLaneOf a b l out) .number ≡ 0 → (bttLaneOf a b l out) .out ≡ take 28 (drop (64 + 28 * l) b)
-unfolding bttLaneOf
-lane-shown a b h l out s small size z =
-    let p = decodeHandle b in
-    let f = lane-found a (handleIn b) l z in
-    let u = few (handleIn b) _ l (f .handle) (f .lane) in
-    let r = record-again b p l (record { size = s .size; small = s .small; is = refl }) u in
-    let e : 4 * recordAt l ≡ 64 + 28 * l = omega arith in
-    rw (z, lane-taken (p .lanes) (p .figures .lanes) l (f .lane), r)
-    (copied out 7 small size b (recordAt l) (s .small) (rw (s .size) (omega arith)) ∙ ap (λ (o : ℕ). take 28 (drop o b)) e)
+-- a record in range fits its bytes
+found-fits : (a : List ℕ) (h : Handle) (l : ℕ) → LaneFound a h l → RecordFits (laneAt (h .table) l)
+unfolding layoutOf
+found-fits a h l f =
+    let g = handle-fit h (length a) (f .judged .handle) in
+    let r = records-ok h (f .judged .records) l (f .lane) in
+    record {
+      busy = ⊎-elim (λ e. omega arith) (λ e. omega arith) (r .busy);
+      block = omega (arith, r .block, g .ok .small);
+      half = ⊎-elim (λ e. omega arith) (λ e. omega arith) (r .half);
+      sequence = omega (arith, r .sequence-most);
+      sector = omega (arith, r .sector, g .ok .blocks, g .ok .small);
+      old = omega (arith, r .old, g .ok .small);
+      made = omega (arith, r .made, g .size);
+    }
+
+pub lane-shown : (a b : List ℕ) (t : List Lane) (l : ℕ) (out : List ℕ) → Small out → length out ≡ 28 → (bttLaneOf a b t l out) .number ≡ 0
+    → RecordShown ((bttLaneOf a b t l out) .out) (laneAt t l)
+unfolding laneShown
+lane-shown a b t l out small size z =
+    let r = laneAt t l in
+    let f = found-fits a (handleIn b t) l (lane-found a (handleIn b t) l z) in
+    rw z (record {
+      size = length-putWords (recordWords r) out 0 ∙ size;
+      small = putWords-bytes (recordWords r) out 0 (record { words = rw size; small = small }) .small;
+      is = record-stored out r size f;
+    })
 
 -- ---- the place of the next store
 
@@ -206,20 +225,30 @@ unfolding storeAt
 place-same g p bytes k =
     by-bool (ltb k (g .W)) (storeAt g p bytes k .place ≡ storeAt g p [] k .place) (λ t. rw t) (λ t. rw t)
 
-step-only : (a : List ℕ) (h : Handle) (l : ℕ) (buffer : List ℕ) → stepNumber a h l buffer ≡ 0
+-- where a step is accepted, so is the look at where it stores
+step-next : (a : List ℕ) (h : Handle) (l : ℕ) (buffer : List ℕ) → stepNumber a h l buffer ≡ 0 → nextNumber a h l ≡ 0
+unfolding nextNumber tableShort
+step-next a h l buffer e =
+    let f = step-found a h l buffer e in
+    let j = f .judged in
+    sym (walked (pass (ap not (j .handle)) (pass (le-ltb _ _ (j .long)) (pass (ap not (j .records))
+    (pass (lt-leb _ _ (f .lane)) (pass (ap not (f .busy)) through))))))
+
+step-stores : (a : List ℕ) (h : Handle) (l : ℕ) (buffer : List ℕ) → stepNumber a h l buffer ≡ 0
     → OnlyAt (nextOffset h l) 4 a ((stepOf a h l buffer) .arena)
 unfolding nextOffset stepOf
-step-only a h l buffer z j u =
+step-stores a h l buffer z j u =
     let g = laidOut h in
-    let r = laneAt (h .lanes) l in
+    let r = laneAt (h .table) l in
     let i = at g (storeAt g (planOf l r) [] (r .made) .place) in
     let d : j / 4 ≢ i = λ e. ⊎-elim (λ x. omega arith) (λ x. omega arith) u in
     rw (eq-eqb _ _ z, place-same g (planOf l r) buffer (r .made))
     (getD-putWord-other a i (storeAt g (planOf l r) buffer (r .made) .value) j d)
 
-pub place-told : (a b : List ℕ) (l offset : ℕ) (buffer : List ℕ) → (bttStepOf a b l buffer) .number ≡ 0 → ToldPlace a b l offset buffer
-unfolding bttOf bttNextStoreOf
-place-told a b l offset buffer z =
-    let n : stepNumber a (handleIn b) l buffer ≡ 0 = unfold stepOf in z in
-    let m = step-next a (handleIn b) l buffer n in
-    record { number = m; store = rw m (step-only a (handleIn b) l buffer n) }
+pub place-told : (a b : List ℕ) (t : List Lane) (l offset : ℕ) (buffer : List ℕ) → (bttStepOf a b t l buffer) .number ≡ 0
+    → ToldPlace a b t l offset buffer
+unfolding bttStepOf nextShown
+place-told a b t l offset buffer z =
+    let n : stepNumber a (handleIn b t) l buffer ≡ 0 = unfold stepOf in z in
+    let m = step-next a (handleIn b t) l buffer n in
+    record { number = m; store = rw m (step-stores a (handleIn b t) l buffer n) }

@@ -9,16 +9,17 @@ use Rattle.words.specs.Bytes.{Small}
 use Rattle.layout.specs.Told.{aloneNear}
 use Rattle.machine.specs.calls.Opening.{openOf}
 use Rattle.runlog.specs.Log.{logOf}
+use Rattle.replaying.specs.Replay.{ownTable, roomOf}
 use Rattle.replaying.specs.Claims.{last, replies}
 use Rattle.btt.specs.Replay.{HostReplay, bttReplayOf}
 
 -- the first opening is refused: no record runs, and the work buffer is as the opening leaves it
 pub record NothingRan (a room buffer : List ℕ) (r : HostReplay) : Type 0 where
-  pub number : r .number ≡ (openOf aloneNear a room) .number
+  pub number : r .number ≡ (openOf aloneNear a (roomOf room ownTable)) .number
   pub records : r .records ≡ 0
   pub stopped : r .stopped ≡ 0
   pub arena : r .arena ≡ a
-  pub work : r .work ≡ (openOf aloneNear a room) .work
+  pub work : r .work ≡ (openOf aloneNear a (roomOf room ownTable)) .work
   pub answers : r .answers ≡ buffer
 
 -- the first opening is accepted
@@ -35,11 +36,12 @@ pub record RecordsRan (a room log buffer : List ℕ) (r : HostReplay) : Type 0 w
   pub unused : (i : ℕ) → r .records ≤ i → getD (r .answers) i 0 ≡ getD buffer i 0
   -- the arena is the history's, the work buffer the first opening's
   pub arena : r .arena ≡ (last a room log) .arena
-  pub work : r .work ≡ (openOf aloneNear a room) .work
+  pub work : r .work ≡ (openOf aloneNear a (roomOf room ownTable)) .work
 
--- for any bytes lent
+-- for any bytes lent; the table of the lanes is the replay's own, so that it never answers 21
 pub record HostReplayClaim : Type 0 where
-  pub refused : (a work log answers : List ℕ) → (openOf aloneNear a work) .number ≢ 0
+  pub own-table : (a work log answers : List ℕ) → (bttReplayOf a work log answers) .number ≢ 21
+  pub refused : (a work log answers : List ℕ) → (openOf aloneNear a (roomOf work ownTable)) .number ≢ 0
       → NothingRan a work answers (bttReplayOf a work log answers)
-  pub accepted : (a work log answers : List ℕ) → Small a → Small work → Small log → (openOf aloneNear a work) .number ≡ 0
+  pub accepted : (a work log answers : List ℕ) → Small a → Small work → Small log → (openOf aloneNear a (roomOf work ownTable)) .number ≡ 0
       → RecordsRan a work log answers (bttReplayOf a work log answers)

@@ -4,12 +4,12 @@ ghost use Rattle.btt.specs.HostList.{HostListClaim};
 ghost use Rattle.btt.specs.HostDemands.{HostDemands};
 ghost use Rattle.btt.specs.HostReplay.{HostReplayClaim};
 
-// Each call through bytes that hold a handle is the machine's call on that handle; a refusal changes nothing; what a host is shown is so.
+// Each call through bytes and a table that hold a handle is the machine's call on that handle; a refusal changes nothing; what a host is shown is so.
 pub fn host()
     ensures host { λ _. ⌜ HostClaim ⌝ }
 {}
 
-// A host's list of calls and openings answers as the machine's does, and leaves the machine's arena and bytes that hold its handle.
+// A host's list of calls and openings answers as the machine's does, and leaves the machine's arena, bytes that hold its handle, and its table.
 pub fn host_list()
     ensures host_list { λ _. ⌜ HostListClaim ⌝ }
 {}

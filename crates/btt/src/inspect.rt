@@ -1,19 +1,18 @@
-// What a host looks up: the place of the info block that counts, whether a lane has a record or a write, and where its next step stores.
+// What a host looks up: the place of the info block that counts, a lane's record, and where its next step stores.
 use format::numbers::LaneNo;
+use handlebytes::put_record;
 use infoblock::Counts;
 use judge::info::info_part;
 use machine::answer::Answer;
 use machine::handle::Handle;
-use machine::handle::handle_allowed;
+use seen::Seen;
+use seen::judge_table;
 use stores::store_place;
 ghost use mathlib.Core.Path.{_≡_};
-ghost use mathlib.Core.Bool.{true};
-ghost use Prim.Native.Nat.{_<_};
-ghost use lib.ListN.{length};
 ghost use Rattle.machine.specs.state.Answer.{numberOf};
-ghost use Rattle.machine.specs.state.Handle.{handleAllowed};
-ghost use Rattle.machine.specs.state.Packed.{unpacked};
-ghost use Rattle.btt.specs.Calls.{bttInfoBlockOf, laneNumber, nextNumber, nextOffset};
+ghost use Rattle.seen.specs.Seen.{Saw, Every};
+ghost use Rattle.btt.specs.Calls.{bttInfoBlockOf, laneNumber, nextNumber, laneShown, nextShown};
+ghost use Rattle.btt.specs.Gave as gave;
 
 // A part of an arena, in bytes.
 pub struct Span {
@@ -43,42 +42,60 @@ pub fn info_span(arena: &[u8]) -> Span
 }
 
 // Judges a look at a lane's record: the first rule of its order that applies.
-pub fn judge_lane(arena: &[u8], h: Handle, lane: LaneNo) -> Answer
-    ensures { λ r. ⌜ numberOf r ≡ laneNumber (now (arena .entry)) (unpacked h) (lane .0) ⌝ }
+fn judge_lane(arena: &[u8], h: Handle, seen: Seen, lane: LaneNo) -> Answer
+    ensures { λ r. ⌜ Every h (lane .0) 0 seen (λ k. numberOf r ≡ laneNumber (now (arena .entry)) k (lane .0)) ⌝ }
 {
-    if !handle_allowed(h, arena.len()) {
-        return Answer::BadHandle;
+    let first = judge_table(arena.len(), h, seen);
+    if !first.is_done() {
+        return first;
     }
     let f = h.figures;
     if f.lanes <= lane.0 {
         return Answer::NoSuchLane;
     }
-    Answer::Done
+    first
 }
 
 // Judges a look at a lane's next store: the first rule of its order that applies.
-pub fn judge_next(arena: &[u8], h: Handle, lane: LaneNo) -> Answer
-    ensures { λ r. ⌜ numberOf r ≡ nextNumber (now (arena .entry)) (unpacked h) (lane .0) ⌝ }
+fn judge_next(arena: &[u8], h: Handle, seen: Seen, lane: LaneNo) -> Answer
+    ensures { λ r. ⌜ Every h (lane .0) 0 seen (λ k. numberOf r ≡ nextNumber (now (arena .entry)) k (lane .0)) ⌝ }
 {
-    let answer = judge_lane(arena, h, lane);
+    let answer = judge_lane(arena, h, seen, lane);
     if !answer.is_done() {
         return answer;
     }
-    let i = lane.0 as usize;
-    let r = h.lanes[i];
-    if !r.is_busy() {
+    let own = seen.own;
+    if !own.is_busy() {
         return Answer::LaneIdle;
     }
     answer
 }
 
-// The byte offset that a lane's next step stores to.
-pub fn next_offset(arena: &[u8], h: Handle, lane: LaneNo) -> u64
-    requires { ⌜ (handleAllowed (unpacked h) (length (now arena)) ≡ true) × (lane .0 < h .figures .lanes) ⌝ }
-    ensures { λ r. ⌜ r ≡ nextOffset (unpacked h) (lane .0) ⌝ }
+// Puts a lane's record into 28 bytes; a refusal leaves them.
+pub fn show_lane(arena: &[u8], h: Handle, seen: Seen, lane: LaneNo, out: &mut [u8; 28]) -> u32
+    ensures { λ r. ⌜ Every h (lane .0) 0 seen
+        (λ k. gave.lane r (now (out .exit)) ≡ laneShown (now (arena .entry)) k (lane .0) (now (out .entry))) ⌝ }
 {
-    let i = lane.0 as usize;
-    let r = h.lanes[i];
+    let answer = judge_lane(arena, h, seen, lane);
+    if !answer.is_done() {
+        return answer.number();
+    }
+    put_record(out, seen.own);
+    0
+}
+
+// The byte offset that a lane's next step stores to; a refusal leaves it.
+pub fn show_next(arena: &[u8], h: Handle, seen: Seen, lane: LaneNo, offset: &mut u64) -> u32
+    requires { ⌜ Saw h (lane .0) 0 seen ⌝ }
+    ensures { λ r. ⌜ Every h (lane .0) 0 seen
+        (λ k. gave.next r (now (offset .exit)) ≡ nextShown (now (arena .entry)) k (lane .0) (now (offset .entry))) ⌝ }
+{
+    let answer = judge_next(arena, h, seen, lane);
+    if !answer.is_done() {
+        return answer.number();
+    }
+    let r = seen.own;
     let place = store_place(h.figures, h.distance, lane, r, r.made);
-    4 * place as u64
+    *offset = 4 * place as u64;
+    0
 }

@@ -1,3 +1,4 @@
+pub mod Lanes
 pub mod Pending
 pub mod Table
 pub mod Worked

@@ -1,5 +1,6 @@
 -- The worked figures of document 01 that are marked to be proved, cases 1 to 8, as one table of values computed and values due; beside them
--- the bytes of case 9, of its twin in the other layout, and of such a write in sectors that are shorter than their blocks.
+-- the bytes of case 9, of its twin in the other layout, and of such a write in sectors that are shorter than their blocks; and the case of 256
+-- lanes.
 use mathlib.Core.Bool.{cond}
 use mathlib.Core.List.{List, [], _∷_, _++_}
 use Prim.Native.Nat.{ℕ, _+_, _-_, _*_}
@@ -17,8 +18,9 @@ use Rattle.machine.specs.calls.Writing.{planOf, storeAt, startOf, writeOf}
 use Rattle.machine.specs.declared.lane.Lane.{Lane}
 use Rattle.machine.specs.state.Lane.{writeStores}
 use Rattle.machine.specs.claims.Making.{smallest}
-use Rattle.machine.specs.claims.Exhibit.{exhibitWork, exhibitState, exhibitSloppy}
+use Rattle.machine.specs.claims.Exhibit.{exhibitRoom, exhibitState, exhibitSloppy}
 use Rattle.cases.specs.Worked.{Worked, _is_}
+use Rattle.cases.specs.Lanes.{case256}
 use Rattle.cases.specs.Pending.{case6, case7, case8}
 
 -- case 1: successors
@@ -34,7 +36,7 @@ case2 =
 -- case 3: at sector 7 of the arena of case 5, 0x00000005 is refused with 18 by an opening and by a read, a start and a whole write, in a layout
 abbrev pub case3-refused : ℕ → List Worked
 case3-refused d =
-    ((openOf (alone d) exhibitSloppy exhibitWork) .number is 18) ∷ ((readOf exhibitSloppy (exhibitState d .handle) 7 (replicate 512 0)) .number is 18)
+    ((openOf (alone d) exhibitSloppy exhibitRoom) .number is 18) ∷ ((readOf exhibitSloppy (exhibitState d .handle) 7 (replicate 512 0)) .number is 18)
     ∷ ((startOf exhibitSloppy (exhibitState d .handle) 0 7) .number is 18)
     ∷ ((writeOf exhibitSloppy (exhibitState d .handle) 0 7 (replicate 512 0)) .number is 18) ∷ []
 
@@ -124,4 +126,4 @@ case9-sizes =
 unfoldable pub table : List Worked
 table =
     case1 ++ (case2 ++ (case3 ++ (case3-bits ++ (case4 ++ (case4-turns ++ (case5 ++ (case5-sizes ++ (case9-sizes ++ (case9-bytes 16 40976 ++ (case9-bytes 32 40992
-    ++ (case3-refused 16 ++ (case3-refused 32 ++ (case6 1 ++ (case6 0 ++ (case7 1 ++ (case7 0 ++ case8))))))))))))))))
+    ++ (case256 ++ (case3-refused 16 ++ (case3-refused 32 ++ (case6 1 ++ (case6 0 ++ (case7 1 ++ (case7 0 ++ case8)))))))))))))))))

@@ -9,7 +9,7 @@ ghost use lib.ListN.{length};
 ghost use Rattle.cases.specs.Table.{table};
 ghost use Rattle.cases.specs.Worked.{AllDue};
 
-// Cases 1 to 8: every value of the table is the one due.
+// Cases 1 to 8 and that of 256 lanes: every value of the table is the one due.
 pub fn p_cases()
     ensures cases { λ _. ⌜ AllDue table ⌝ }
 {}
@@ -70,7 +70,7 @@ fn show_file(name: &[u8]) {
     }
 }
 
-// Bytes for each of the three arenas.
+// Bytes for each of the four arenas.
 fn room_of_12() -> [u8; 49152]
     ensures { λ r. ⌜ 49152 ≡ length r ⌝ }
 {
@@ -89,6 +89,12 @@ fn room_of_6() -> [u8; 24576]
     [165u8; 24576]
 }
 
+fn room_of_71() -> [u8; 290816]
+    ensures { λ r. ⌜ 290816 ≡ length r ⌝ }
+{
+    [165u8; 290816]
+}
+
 fn main() {
     let mut first = room_of_12();
     show_made(&mut first, 512, 60, 4);
@@ -96,6 +102,8 @@ fn main() {
     show_made(&mut second, 512, 1, 1);
     let mut third = room_of_6();
     show_made(&mut third, 4096, 1, 1);
+    let mut fourth = room_of_71();
+    show_made(&mut fourth, 512, 256, 256);
     show_file(b"linux-6.1-512.info");
     show_file(b"linux-6.1-520.info");
     show_file(b"pmdk-1.12-512.info");

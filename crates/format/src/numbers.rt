@@ -2,9 +2,11 @@
 ghost use mathlib.Core.Path.{_≡_};
 
 // A sector as a host numbers it.
+#[repr(C)]
 pub struct SectorNo(pub u32);
 
 // A block of the data part.
+#[repr(C)]
 pub struct BlockNo(pub u32);
 
 // A lane.

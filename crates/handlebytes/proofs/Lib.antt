@@ -1,4 +1,3 @@
 pub mod Offsets
-pub mod Records
 pub mod Round
 pub mod Whole

@@ -1,18 +1,18 @@
--- The bytes of a handle said a second time, by byte offset, and the claim that storing and decoding agree.
+-- The bytes of a handle and of a record said a second time, by byte offset, and the claim that storing and decoding agree.
 use mathlib.Core.Path.{_≡_}
 use mathlib.Core.List.{List}
-use Prim.Native.Nat.{ℕ, _+_, _*_, _<_}
-use lib.ListN.{replicate}
+use Prim.Native.Nat.{ℕ}
+use lib.ListN.{length, replicate}
+use Rattle.words.specs.Word.{putWords}
 use Rattle.words.specs.Bytes.{byteWord, byteLong}
-use Rattle.machine.specs.state.Handle.{laneAt}
-use Rattle.machine.specs.state.Packed.{zeroHandle}
+use Rattle.machine.specs.state.Handle.{zeroHandle}
 use Rattle.machine.specs.declared.lane.Lane.{Lane}
 use Rattle.machine.specs.declared.handle.Handle.{Handle}
-use Rattle.handlebytes.specs.Bytes.{recordAt, decodeHandle, putRecord, encodeHandle}
-use Rattle.handlebytes.specs.Stands.{RecordFits, HandleFits, Stands, withRecord}
+use Rattle.handlebytes.specs.Bytes.{decodeHandle, recordWords, encodeHandle}
+use Rattle.handlebytes.specs.Stands.{RecordFits, HandleFits, Stands}
 
--- where the numbers before the records stand
-pub record HeadAt (b : List ℕ) (h : Handle) : Type 0 where
+-- where the numbers of a handle stand
+pub record HandleAt (b : List ℕ) (h : Handle) : Type 0 where
   pub total : h .length ≡ byteLong b 0
   pub data-start : h .figures .dataoff ≡ byteLong b 8
   pub map-start : h .figures .mapoff ≡ byteLong b 16
@@ -25,26 +25,24 @@ pub record HeadAt (b : List ℕ) (h : Handle) : Type 0 where
   pub lanes : h .figures .lanes ≡ byteWord b 56
   pub layout : h .distance ≡ byteWord b 60
 
--- a record whose first byte is byte o
-pub record RecordFrom (b : List ℕ) (o : ℕ) (r : Lane) : Type 0 where
-  pub busy : r .busy ≡ byteWord b o
-  pub block : r .block .0 ≡ byteWord b (o + 4)
-  pub half : r .half ≡ byteWord b (o + 8)
-  pub sequence : r .sequence .0 ≡ byteWord b (o + 12)
-  pub sector : r .sector .0 ≡ byteWord b (o + 16)
-  pub old : r .old .0 ≡ byteWord b (o + 20)
-  pub made : r .made ≡ byteWord b (o + 24)
+-- a record's seven numbers in 28 bytes
+pub record RecordIn (b : List ℕ) (r : Lane) : Type 0 where
+  pub busy : byteWord b 0 ≡ r .busy
+  pub block : byteWord b 4 ≡ r .block .0
+  pub half : byteWord b 8 ≡ r .half
+  pub sequence : byteWord b 12 ≡ r .sequence .0
+  pub sector : byteWord b 16 ≡ r .sector .0
+  pub old : byteWord b 20 ≡ r .old .0
+  pub made : byteWord b 24 ≡ r .made
 
 pub record BytesClaim : Type 0 where
-  -- every number of a handle by its byte; lane l's record has 28 bytes from byte 64 + 28 l on
-  pub head : (b : List ℕ) → HeadAt b (decodeHandle b)
-  pub lane : (b : List ℕ) (l : ℕ) → l < 16 → RecordFrom b (64 + 28 * l) (laneAt ((decodeHandle b) .lanes) l)
+  -- every number of a handle by its byte
+  pub head : (b : List ℕ) → HandleAt b (decodeHandle b)
   -- a handle's bytes stand for it
   pub encoded : (h : Handle) → HandleFits h → Stands (encodeHandle h) h
   -- so do those that a refused opening leaves
-  pub zeroes : Stands (replicate 512 0) zeroHandle
-  -- a record stored in its place changes that record and nothing else
-  pub stored : (b : List ℕ) (h : Handle) (l : ℕ) (r : Lane) → Stands b h → l < 16 → RecordFits r
-      → Stands (putRecord b (recordAt l) r) (withRecord h l r)
+  pub zeroes : Stands (replicate 64 0) zeroHandle
   -- what bytes stand for fits
   pub fits : (b : List ℕ) (h : Handle) → Stands b h → HandleFits h
+  -- a record stored in 28 bytes
+  pub stored : (b : List ℕ) (r : Lane) → length b ≡ 28 → RecordFits r → RecordIn (putWords b 0 (recordWords r)) r

@@ -2,11 +2,9 @@
 use mathlib.Core.Path.{_≡_}
 use mathlib.Core.List.{List}
 use Prim.Native.Nat.{ℕ, _<_}
-use lib.ListN.{length, set}
+use lib.ListN.{length}
 use Rattle.words.specs.Bytes.{Small}
-use Rattle.layout.specs.Figures.{maxLanes}
 use Rattle.layout.specs.Fit.{FiguresFit}
-use Rattle.machine.specs.state.Handle.{laneAt}
 use Rattle.machine.specs.declared.lane.Lane.{Lane}
 use Rattle.machine.specs.declared.handle.Handle.{Handle}
 use Rattle.handlebytes.specs.Bytes.{handleBytes, decodeHandle}
@@ -27,19 +25,13 @@ pub record RecordFits (r : Lane) : Type 0 where
   pub old : Fits32 (r .old .0)
   pub made : Fits32 (r .made)
 
--- the handle with record l replaced
-abbrev pub withRecord : Handle → ℕ → Lane → Handle
-withRecord h l r = record { length = h .length; distance = h .distance; figures = h .figures; lanes = set (h .lanes) l r }
-
 -- what the type of a handle gives of its numbers
 pub record HandleFits (h : Handle) : Type 0 where
   pub total : Fits64 (h .length)
   pub distance : Fits32 (h .distance)
   pub figures : FiguresFit (h .figures)
-  pub records : length (h .lanes) ≡ maxLanes
-  pub lanes : (l : ℕ) → l < maxLanes → RecordFits (laneAt (h .lanes) l)
 
--- 512 bytes that decode to the handle
+-- 64 bytes that decode to the handle
 pub record Stands (b : List ℕ) (h : Handle) : Type 0 where
   pub size : length b ≡ handleBytes
   pub small : Small b

@@ -1,4 +1,4 @@
--- Opening's order in the parts in which it is judged: rules 16 and 1 to 4, 5, and 6, 7, 18 and 8; and what each part leaves of the number, the figures
+-- Opening's order in the parts in which it is judged: rules 16 and 1 to 4, 5, 21, and 6, 7, 18 and 8; and what each part leaves of the number, the figures
 -- and the work buffer.
 use mathlib.Core.Path.{_≡_, refl, sym, _∙_}
 use mathlib.Core.Logic.{inl, inr}
@@ -20,8 +20,10 @@ use Rattle.infoblock.proofs.InfoBlock.{length-of}
 use Rattle.machine.specs.Rules.{answer}
 use Rattle.machine.specs.state.Handle.{noFigures}
 use Rattle.machine.specs.calls.Opening.{
+  Extent,
   OpenRule,
   shortWork,
+  fewRecords,
   numberOpen,
   testsOpen,
   infoRules,
@@ -44,7 +46,7 @@ use Rattle.machine.proofs.opening.Opens.{some-number-open, lanes-pass}
 use Rattle.machine.proofs.opening.Spare.{rule8}
 use Rattle.lanes.proofs.Lanes.{fit-arena}
 use Rattle.once.specs.Once.{cleared, blocksOnce}
-use Rattle.judge.specs.Judge.{judgedFigures, wordsNumber}
+use Rattle.judge.specs.Judge.{extent, judgedFigures, workLeft, wordsNumber}
 
 -- an arena that passes these fits its figures
 pub described-fit : (t : Told) (a : List ℕ) → Described t a → Fit (t .distance) (figuresIn a) (length a)
@@ -66,7 +68,7 @@ module _ (t : Told) (a : List ℕ) (f : Figures) (are : f ≡ figuresIn a) where
   g = layoutOf (t .distance) f
 
   abbrev Answered : ℕ → Type 0
-  Answered n = (room : ℕ) → n ≡ answer numberOpen (testsOpen t a room) mapRules
+  Answered n = (room : Extent) → n ≡ answer numberOpen (testsOpen t a room) mapRules
 
   pub words-passed : wordsNumber g a ≡ 0 → (wordBad g a ≡ false) × (wordSloppy g a ≡ false)
   words-passed e = by-bool (wordBad g a) _ (λ p. absurd (omega (arith, rw p at e)))
@@ -100,7 +102,7 @@ module _ (t : Told) (a : List ℕ) (f : Figures) (are : f ≡ figuresIn a) where
         valid-walk u room = walked (pass (rw (← are) lanes)
             (pass (rw (← are) (words-passed words .0)) (pass (rw (← are) (passed-clean words padding)) (pass (rw (← are) u) through))))
 
-module _ (t : Told) (a : List ℕ) (room : ℕ) where
+module _ (t : Told) (a : List ℕ) (room : Extent) where
   -- the number that a part of the order gives
   abbrev answered : List OpenRule → ℕ
   answered rs = answer numberOpen (testsOpen t a room) rs
@@ -119,62 +121,86 @@ module _ (t : Told) (a : List ℕ) (room : ℕ) where
   alone-answer : answered aloneRules ≡ cond (eqb (answered infoRules) 0) (answered (shortWork ∷ [])) (answered infoRules)
   alone-answer = answer-append numberOpen some-number-open (testsOpen t a room) infoRules (shortWork ∷ [])
 
-  open-answer : openNumber t a room ≡ cond (eqb (answered aloneRules) 0) (answered mapRules) (answered aloneRules)
+  open-answer : openNumber t a room ≡ cond (eqb (answered aloneRules) 0) (answered (fewRecords ∷ mapRules)) (answered aloneRules)
   unfolding openNumber
-  open-answer = answer-append numberOpen some-number-open (testsOpen t a room) aloneRules mapRules
+  open-answer = answer-append numberOpen some-number-open (testsOpen t a room) aloneRules (fewRecords ∷ mapRules)
+
+-- what is judged before the work buffer is used does not go by the table
+no-table : (t : Told) (a : List ℕ) (bytes records : ℕ) → answered t a (extent bytes 0) aloneRules ≡ answered t a (extent bytes records) aloneRules
+unfolding answer
+no-table t a bytes records = refl
 
 -- what judging gives: a number, figures, and the work buffer as it is left
-pub record Ends (t : Told) (a work : List ℕ) (n : ℕ) (f : Figures) (left : List ℕ) : Type 0 where
-  pub number : n ≡ openNumber t a (length work)
-  pub figures : f ≡ judgedFigures (openNumber t a (length work)) a
-  pub buffer : left ≡ workAfter t a work
+pub record Ends (t : Told) (a work : List ℕ) (records n : ℕ) (f : Figures) (left : List ℕ) : Type 0 where
+  pub number : n ≡ openNumber t a (extent (length work) records)
+  pub figures : f ≡ judgedFigures (openNumber t a (extent (length work) records)) a
+  pub buffer : left ≡ workLeft t a work
 
-module _ (t : Told) (a work : List ℕ) (n : ℕ) where
+module _ (t : Told) (a work : List ℕ) (records n : ℕ) where
+  abbrev room : Extent
+  room = extent (length work) records
+
   -- a rule before the work buffer's use applies
-  alone-refuses : n ≡ answered t a (length work) aloneRules → eqb n 0 ≡ false → Ends t a work n noFigures work
+  alone-refuses : n ≡ answered t a room aloneRules → eqb n 0 ≡ false → Ends t a work records n noFigures work
   unfolding workAfter
   alone-refuses e z =
-      let m : n ≡ openNumber t a (length work) = e ∙ sym (open-answer t a (length work) ∙ rw (← e, z)) in
-      record { number = m; figures = rw (← m, z); buffer = rw (← e, z) }
+      let m : n ≡ openNumber t a room = e ∙ sym (open-answer t a room ∙ rw (← e, z)) in
+      record { number = m; figures = rw (← m, z); buffer = rw (no-table t a (length work) records, ← e, z) }
 
-  pub info-refuses : n ≡ answered t a (length work) infoRules → eqb n 0 ≡ false → Ends t a work n noFigures work
-  info-refuses e z = alone-refuses (e ∙ sym (alone-answer t a (length work) ∙ rw (← e, z))) z
+  pub info-refuses : n ≡ answered t a room infoRules → eqb n 0 ≡ false → Ends t a work records n noFigures work
+  info-refuses e z = alone-refuses (e ∙ sym (alone-answer t a room ∙ rw (← e, z))) z
 
 -- rules 16 and 1 to 4 let pass
-module _ (t : Told) (a work : List ℕ) (n : ℕ) (f : Figures) (e : n ≡ answered t a (length work) infoRules) (z : eqb n 0 ≡ true)
-    (fe : f ≡ judgedFigures n a) where
-  passed : answered t a (length work) infoRules ≡ 0
+module _ (t : Told) (a work : List ℕ) (records n : ℕ) (f : Figures) (e : n ≡ answered t a (extent (length work) records) infoRules)
+    (z : eqb n 0 ≡ true) (fe : f ≡ judgedFigures n a) where
+  abbrev rm : Extent
+  rm = extent (length work) records
+
+  passed : answered t a rm infoRules ≡ 0
   passed = sym e ∙ eqb-true n 0 z
 
   pub figures-are : f ≡ figuresIn a
   figures-are = fe ∙ rw z
 
   pub figures-fit : Fit (t .distance) f (length a)
-  figures-fit = rw figures-are (described-fit t a (info-passed t a (length work) passed))
+  figures-fit = rw figures-are (described-fit t a (info-passed t a rm passed))
 
-  pub room-refuses : length work < f .blocks → Ends t a work 5 noFigures work
+  pub room-refuses : length work < f .blocks → Ends t a work records 5 noFigures work
   unfolding layoutOf
   room-refuses h =
       let s : length work < (layoutIn t a) .I = rw figures-are at h in
-      let w : 5 ≡ answered t a (length work) (shortWork ∷ []) = walked (stop (lt-ltb _ _ s)) in
-      alone-refuses t a work 5 (w ∙ sym (alone-answer t a (length work) ∙ rw passed)) refl
+      let w : 5 ≡ answered t a rm (shortWork ∷ []) = walked (stop (lt-ltb _ _ s)) in
+      alone-refuses t a work records 5 (w ∙ sym (alone-answer t a rm ∙ rw passed)) refl
 
-  module _ (room : f .blocks ≤ length work) (m : ℕ) (p : m ≡ answered t a (length work) mapRules) where
-    alone-passes : answered t a (length work) aloneRules ≡ 0
+  module _ (enough : f .blocks ≤ length work) where
+    alone-passes : answered t a rm aloneRules ≡ 0
     unfolding layoutOf
     alone-passes =
-        let s : (layoutIn t a) .I ≤ length work = rw figures-are at room in
-        alone-answer t a (length work) ∙ rw passed (sym (walked (pass (le-ltb _ _ s) through)))
+        let s : (layoutIn t a) .I ≤ length work = rw figures-are at enough in
+        alone-answer t a rm ∙ rw passed (sym (walked (pass (le-ltb _ _ s) through)))
 
-    number-is : m ≡ openNumber t a (length work)
-    number-is = p ∙ sym (open-answer t a (length work) ∙ rw alone-passes)
-
-    work-is : cleared (f .blocks) work ≡ workAfter t a work
+    work-is : cleared (f .blocks) work ≡ workLeft t a work
     unfolding workAfter layoutOf
-    work-is = rw (figures-are, alone-passes)
+    work-is = rw (figures-are, no-table t a (length work) records, alone-passes)
 
-    pub map-refuses : eqb m 0 ≡ false → Ends t a work m noFigures (cleared (f .blocks) work)
-    map-refuses y = record { number = number-is; figures = rw (← number-is, y); buffer = work-is }
+    -- 21, with the work buffer cleared
+    pub table-refuses : records < f .lanes → Ends t a work records 21 noFigures (cleared (f .blocks) work)
+    unfolding layoutOf
+    table-refuses h =
+        let s : records < (layoutIn t a) .N = rw figures-are at h in
+        let w : 21 ≡ answered t a rm (fewRecords ∷ mapRules) = walked (stop (lt-ltb _ _ s)) in
+        let m : 21 ≡ openNumber t a rm = w ∙ sym (open-answer t a rm ∙ rw alone-passes) in
+        record { number = m; figures = rw (← m); buffer = work-is }
 
-    pub map-passes : eqb m 0 ≡ true → Ends t a work m f (cleared (f .blocks) work)
-    map-passes y = record { number = number-is; figures = figures-are ∙ rw (← number-is, y); buffer = work-is }
+    module _ (long : f .lanes ≤ records) (m : ℕ) (p : m ≡ answered t a rm mapRules) where
+      number-is : m ≡ openNumber t a rm
+      unfolding layoutOf answer
+      number-is =
+          let s : (layoutIn t a) .N ≤ records = rw figures-are at long in
+          p ∙ sym (open-answer t a rm ∙ rw (alone-passes, le-ltb records ((layoutIn t a) .N) s))
+
+      pub map-refuses : eqb m 0 ≡ false → Ends t a work records m noFigures (cleared (f .blocks) work)
+      map-refuses y = record { number = number-is; figures = rw (← number-is, y); buffer = work-is }
+
+      pub map-passes : eqb m 0 ≡ true → Ends t a work records m f (cleared (f .blocks) work)
+      map-passes y = record { number = number-is; figures = figures-are ∙ rw (← number-is, y); buffer = work-is }

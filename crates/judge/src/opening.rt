@@ -1,4 +1,4 @@
-// Opening's rules 16, 1 to 8 and 18: all is judged before anything is stored.
+// Opening's rules 16, 1 to 8, 18 and 21: all is judged before anything is stored.
 use super::info::info_block;
 use format::map::word_fault;
 use format::numbers::LaneNo;
@@ -25,11 +25,11 @@ ghost use Rattle.layout.specs.Place.{layoutOf};
 ghost use Rattle.machine.specs.Rules.{answer};
 ghost use Rattle.machine.specs.state.Answer.{numberOf};
 ghost use Rattle.machine.specs.state.Handle.{noFigures};
-ghost use Rattle.machine.specs.calls.Opening.{numberOpen, testsOpen, infoRules, mapRules, openNumber};
-ghost use Rattle.machine.specs.calls.Opening.{figuresIn, lanesLost, lanePadded, workAfter};
+ghost use Rattle.machine.specs.calls.Opening.{Extent, numberOpen, testsOpen, infoRules, mapRules, openNumber};
+ghost use Rattle.machine.specs.calls.Opening.{figuresIn, lanesLost, lanePadded};
 ghost use Rattle.lanes.specs.Fit.{MapFit};
 ghost use Rattle.once.specs.Once.{cleared};
-ghost use Rattle.judge.specs.Judge.{judgedFigures, wordsNumber};
+ghost use Rattle.judge.specs.Judge.{extent, judgedFigures, workLeft, wordsNumber};
 
 // What judging finds: an answer, and the figures where it is Done.
 pub struct Judged {
@@ -49,7 +49,7 @@ fn refused(answer: Answer) -> Judged
 
 // Rule 16, of the layout that is told, and rules 1 to 4.
 fn judge_info(a: &[u8], told: Told) -> Judged
-    ensures { λ r. ⌜ ((room : ℕ) → numberOf (r .answer) ≡ answer numberOpen (testsOpen told (now (a .entry)) room) infoRules) ⌝ }
+    ensures { λ r. ⌜ ((room : Extent) → numberOf (r .answer) ≡ answer numberOpen (testsOpen told (now (a .entry)) room) infoRules) ⌝ }
     ensures { λ r. ⌜ r .figures ≡ judgedFigures (numberOf (r .answer)) (now (a .entry)) ⌝ }
 {
     if !distance_allowed(told.distance) {
@@ -133,7 +133,7 @@ fn lane_padded(a: &[u8], f: Figures, d: u32) -> bool
 // Rules 6, 7, 18 and 8. The first blocks bytes of the work buffer are 0 afterwards.
 fn judge_map(a: &[u8], told: Told, f: Figures, work: &mut [u8]) -> Answer
     requires { ⌜ Fit (told .distance) f (length (now a)) × (f ≡ figuresIn (now a)) × (f .blocks ≤ length (now work)) ⌝ }
-    ensures { λ r. ⌜ ((room : ℕ) → numberOf r ≡ answer numberOpen (testsOpen told (now (a .entry)) room) mapRules) ⌝ }
+    ensures { λ r. ⌜ ((room : Extent) → numberOf r ≡ answer numberOpen (testsOpen told (now (a .entry)) room) mapRules) ⌝ }
     ensures { λ _. ⌜ now (work .exit) ≡ cleared (f .blocks) (now (work .entry)) ⌝ }
 {
     if lanes_lost(a, f, told.distance) {
@@ -155,11 +155,11 @@ fn judge_map(a: &[u8], told: Told, f: Figures, work: &mut [u8]) -> Answer
     Answer::Done
 }
 
-// Rules 16, 1 to 8 and 18, as an opening is told, with the figures where none applies.
-pub fn judge(a: &[u8], told: Told, work: &mut [u8]) -> Judged
-    ensures { λ r. ⌜ numberOf (r .answer) ≡ openNumber told (now (a .entry)) (length (now (work .entry))) ⌝ }
-    ensures { λ r. ⌜ r .figures ≡ judgedFigures (openNumber told (now (a .entry)) (length (now (work .entry)))) (now (a .entry)) ⌝ }
-    ensures { λ _. ⌜ now (work .exit) ≡ workAfter told (now (a .entry)) (now (work .entry)) ⌝ }
+// Rules 16, 1 to 8, 18 and 21, as an opening is told, with a table of so many records; the figures where none applies.
+pub fn judge(a: &[u8], told: Told, work: &mut [u8], records: usize) -> Judged
+    ensures { λ r. ⌜ numberOf (r .answer) ≡ openNumber told (now (a .entry)) (extent (length (now (work .entry))) records) ⌝ }
+    ensures { λ r. ⌜ r .figures ≡ judgedFigures (openNumber told (now (a .entry)) (extent (length (now (work .entry))) records)) (now (a .entry)) ⌝ }
+    ensures { λ _. ⌜ now (work .exit) ≡ workLeft told (now (a .entry)) (now (work .entry)) ⌝ }
 {
     let info = judge_info(a, told);
     let f = info.figures;
@@ -169,6 +169,10 @@ pub fn judge(a: &[u8], told: Told, work: &mut [u8]) -> Judged
     }
     if work.len() < f.blocks as usize {
         return refused(Answer::ShortWorkBuffer);
+    }
+    if records < f.lanes as usize {
+        clear(work, f.blocks as usize);
+        return refused(Answer::ShortTable);
     }
     let map = judge_map(a, told, f, work);
     if !map.is_done() {

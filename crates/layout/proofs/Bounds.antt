@@ -69,17 +69,17 @@ pub aligned : (f : Figures) → f .dataoff % 4096 ≡ 0 → f .mapoff % 4096 ≡
 aligned f a b c = rw (eq-eqb (f .dataoff % 4096) 0 a, eq-eqb (f .mapoff % 4096) 0 b, eq-eqb (f .flogoff % 4096) 0 c, and-true)
 
 module _ (size sectors lanes : ℕ) where
-  -- at most 16 lanes, and blocks of at most 8,192 bytes
-  pub sizes-small : sizesAllowed size sectors lanes ≡ true → (internalOf size ≤ 8192) × (lanes ≤ 16)
+  -- at most 256 lanes, and blocks of at most 8,192 bytes
+  pub sizes-small : sizesAllowed size sectors lanes ≡ true → (internalOf size ≤ 8192) × (lanes ≤ 256)
   sizes-small h = let s = sizes-of size sectors lanes h in (size-fitting size (s .0) .block-most, s .3)
 
   -- the bytes of all blocks, z each
   pub data-small : sizesAllowed size sectors lanes ≡ true → sectors < 4294967296 → (z : ℕ) → z ≡ internalOf size
-      → (sectors + lanes) * z ≤ 35184372219904
+      → (sectors + lanes) * z ≤ 35184374185984
   data-small h k z e =
       let s = sizes-small h in
-      let l : sectors + lanes ≤ 4294967312 = omega arith in
-      omega (arith, product (sectors + lanes) z 4294967312 8192 l (rw e (s .0)))
+      let l : sectors + lanes ≤ 4294967552 = omega arith in
+      omega (arith, product (sectors + lanes) z 4294967552 8192 l (rw e (s .0)))
 
   -- an allowed length bounds each part
   pub parts-small : freshLength size sectors lanes ≤ 16777216 → (z : ℕ) → z ≡ internalOf size

@@ -31,7 +31,7 @@ pub record Sizes (S E N : ℕ) : Type 0 where
   pub size : (Z : ℕ) × SizePair S Z
   pub sectors : N ≤ E
   pub some-lane : 1 ≤ N
-  pub few-lanes : N ≤ 16
+  pub few-lanes : N ≤ 256
 
 -- m is the least multiple of u that is n or more
 pub record LeastMultiple (u n m : ℕ) : Type 0 where

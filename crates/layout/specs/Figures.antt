@@ -11,7 +11,7 @@ use Rattle.layout.specs.declared.Figures.{Figures}
 
 -- the most lanes that an arena has
 abbrev pub maxLanes : ℕ
-maxLanes = 16
+maxLanes = 256
 
 -- rule 1: a multiple of 4,096 from 20,480 to 16,777,216
 abbrev pub lengthAllowed : ℕ → Bool
@@ -47,7 +47,7 @@ pub record Allowed (f : Figures) (length : ℕ) : Type 0 where
   pub sectors : f .lanes ≤ f .sectors
   pub blocks : f .blocks ≡ f .sectors + f .lanes
   pub some-lane : 1 ≤ f .lanes
-  pub few-lanes : f .lanes ≤ 16
+  pub few-lanes : f .lanes ≤ 256
   pub data-aligned : f .dataoff % 4096 ≡ 0
   pub map-aligned : f .mapoff % 4096 ≡ 0
   pub flog-aligned : f .flogoff % 4096 ≡ 0

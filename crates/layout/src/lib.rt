@@ -17,7 +17,7 @@ ghost use Rattle.layout.specs.Place.{layoutOf, inData, inMap, inFlog, at
 ghost use Rattle.layout.specs.Told.{alone, distanceAllowed};
 
 // The most lanes that an arena has.
-pub const MAX_LANES: u32 = 16;
+pub const MAX_LANES: u32 = 256;
 
 // The most bytes of a sector.
 pub const MAX_SIZE: usize = 4104;

@@ -4,8 +4,7 @@ pub mod Rule16
 pub mod Running
 pub mod Whole
 pub mod Tables
-pub mod Packed
-pub mod Packing
+pub mod Lent
 pub mod Records
 pub mod Kept
 pub mod Written

@@ -1,7 +1,7 @@
 pub mod Opening
 pub mod Making
 pub mod Running
-pub mod Packing
+pub mod Lent
 pub mod DemandOne
 pub mod DemandTwo
 pub mod DemandThree

@@ -1,6 +1,5 @@
 pub mod Answer
 pub mod Lane
 pub mod Handle
-pub mod Packed
 pub mod Stores
 pub mod Flog

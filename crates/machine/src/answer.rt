@@ -4,7 +4,7 @@ ghost use mathlib.Core.Bool.{Bool};
 ghost use lib.Dec.{eqb};
 ghost use Rattle.machine.specs.state.Answer.{numberOf};
 
-// Each with its number in document 01's table of refusals, 18 of a sloppy arena and 20 of the run log.
+// Each with its number in document 01's table of refusals, 18 of a sloppy arena, 20 of the run log and 21 of a short table.
 pub enum Answer {
     // 0: accepted.
     Done,
@@ -38,12 +38,14 @@ pub enum Answer {
     LaneIdle,
     // 15: the sector read is bad.
     BadSector,
-    // 16: the handle breaks a figure or does not match the slice, or a layout is neither 16 nor 32.
+    // 16: the handle breaks a figure or does not match the slice, a lane's record is out of range, or a layout is neither 16 nor 32.
     BadHandle,
     // 18: a map word with flags 00 or the padding of a lane is not zero.
     Sloppy,
     // 20: a record of a run log is short, has another length than its kind or an unknown kind, or the log is too long.
     BadRecord,
+    // 21: the table of lane records is shorter than the lanes.
+    ShortTable,
 }
 
 impl Answer {
@@ -71,6 +73,7 @@ impl Answer {
             Answer::BadHandle => 16,
             Answer::Sloppy => 18,
             Answer::BadRecord => 20,
+            Answer::ShortTable => 21,
         }
     }
 

@@ -1,4 +1,4 @@
-// A lane's record: its free block, its next half and sequence, and the write in flight, if any.
+// A lane's record: its free block, its next half and sequence, and the write in flight, if any. A host may put any numbers into one.
 use format::numbers::BlockNo;
 use format::numbers::SectorNo;
 use format::sequence::Sequence;
@@ -7,8 +7,9 @@ ghost use Prim.Native.Nat.{_+_, _≤_, _<_};
 ghost use Rattle.layout.specs.Sizes.{maxStores};
 ghost use Rattle.machine.specs.state.Lane.{noLane, idleLane, isBusy, startedLane, storedLane, finishedLane};
 
+#[repr(C)]
 pub struct Lane {
-    // 1 where a write is in flight, else 0.
+    // 1 where a write is in flight, else 0; any other number is out of range.
     pub busy: u32,
     // The free block; of a write in flight, its new block.
     pub block: BlockNo,

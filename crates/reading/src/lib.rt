@@ -8,7 +8,8 @@ use lanes::map_word;
 use layout::data_place;
 use machine::answer::Answer;
 use machine::handle::Handle;
-use machine::handle::handle_allowed;
+use seen::Seen;
+use seen::judge_table;
 use words::put_word;
 use words::word_at;
 use words::zero_words;
@@ -18,8 +19,8 @@ ghost use lib.ListN.{length};
 ghost use Rattle.words.specs.Word.{putWords, wordsFrom};
 ghost use Rattle.format.specs.MapWord.{flagsOf, readingOf};
 ghost use Rattle.machine.specs.state.Answer.{numberOf};
-ghost use Rattle.machine.specs.state.Packed.{unpacked};
 ghost use Rattle.machine.specs.calls.Reading.{readOf, readNumber};
+ghost use Rattle.seen.specs.Seen.{Saw, Every};
 ghost use Rattle.reading.specs.Gave.{readGave};
 
 // What a read of a sector with that map word gives: 0 zeroes, 1 the bad-sector answer, 2 the block's bytes.
@@ -34,11 +35,13 @@ fn reading_of(word: u32) -> u32
 }
 
 // Judges a read: the first rule of its order that applies.
-fn judge_read(arena: &[u8], h: Handle, sector: SectorNo, buffer: &[u8]) -> Answer
-    ensures { λ r. ⌜ numberOf r ≡ readNumber (now (arena .entry)) (unpacked h) (sector .0) (now (buffer .entry)) ⌝ }
+fn judge_read(arena: &[u8], h: Handle, seen: Seen, sector: SectorNo, buffer: &[u8]) -> Answer
+    requires { ⌜ Saw h 0 0 seen ⌝ }
+    ensures { λ r. ⌜ Every h 0 0 seen (λ k. numberOf r ≡ readNumber (now (arena .entry)) k (sector .0) (now (buffer .entry))) ⌝ }
 {
-    if !handle_allowed(h, arena.len()) {
-        return Answer::BadHandle;
+    let first = judge_table(arena.len(), h, seen);
+    if !first.is_done() {
+        return first;
     }
     let f = h.figures;
     if f.sectors <= sector.0 {
@@ -58,7 +61,7 @@ fn judge_read(arena: &[u8], h: Handle, sector: SectorNo, buffer: &[u8]) -> Answe
     if reading_of(word) == 1 {
         return Answer::BadSector;
     }
-    Answer::Done
+    first
 }
 
 // Copies n words, from word i of the arena on, to the start of the buffer.
@@ -74,13 +77,14 @@ fn copy_words(arena: &[u8], i: usize, buffer: &mut [u8], n: usize)
     }
 }
 
-// Reads a sector into a buffer of a sector's length: the block's bytes, or zeroes.
-pub fn read(arena: &[u8], h: Handle, sector: SectorNo, buffer: &mut [u8]) -> Answer
-    ensures { λ r. ⌜ readGave r (now (buffer .exit)) ≡ readOf (now (arena .entry)) (unpacked h) (sector .0) (now (buffer .entry)) ⌝ }
+// Reads a sector into a buffer of a sector's length, by what was seen of the table: the block's bytes, or zeroes; the number of the answer.
+pub fn read_seen(arena: &[u8], h: Handle, seen: Seen, sector: SectorNo, buffer: &mut [u8]) -> u32
+    requires { ⌜ Saw h 0 0 seen ⌝ }
+    ensures { λ r. ⌜ Every h 0 0 seen (λ k. readGave r (now (buffer .exit)) ≡ readOf (now (arena .entry)) k (sector .0) (now (buffer .entry))) ⌝ }
 {
-    let answer = judge_read(arena, h, sector, &buffer[..]);
+    let answer = judge_read(arena, h, seen, sector, &buffer[..]);
     if !answer.is_done() {
-        return answer;
+        return answer.number();
     }
     let f = h.figures;
     let words = (f.size / 4) as usize;
@@ -92,8 +96,8 @@ pub fn read(arena: &[u8], h: Handle, sector: SectorNo, buffer: &mut [u8]) -> Ans
             buffer,
             words,
         );
-        return answer;
+        return 0;
     }
     zero_words(buffer, 0, words);
-    answer
+    0
 }

@@ -6,7 +6,6 @@ use lib.ListN.{length, take, drop, replicate, length-replicate}
 use lib.Seq.{take-all, take-append-seam}
 use borrow.Author.Tests.{lt-ltb, le-ltb}
 use mathlib.Core.Bool.{false}
-use Rattle.machine.specs.state.Answer.{numberOf}
 use Rattle.io.specs.Counts.{Counts}
 use Rattle.text.specs.Replay.{replayText}
 use Rattle.text.proofs.Laws.{counted}
@@ -51,11 +50,13 @@ module _ (a log arena work answers : List ℕ) (d : Replayed)
   pub few-answers : length (take (d .records) answers) ≤ 2048
   few-answers = rw numbers (replay-within a workBuffer log .0)
 
-  pub transcribed : length a ≤ maxArena → (n : ℕ) → n ≡ numberOf (d .first) → (before after : List ℕ) (r : ℕ)
-      → let text = replayText n (take (d .records) answers) (d .stopped) (d .at) in
+  pub transcribed : length a ≤ maxArena → (before after : List ℕ) (r : ℕ)
+      → let n = d .first in
+      let text = replayText n (take (d .records) answers) (d .stopped) (d .at) in
       r ≡ length text → after ≡ text ++ drop (length text) before → Transcribed (transcriptOf a log) r arena before after
   unfolding transcriptOf
-  transcribed u n e before after r p q =
+  transcribed u before after r p q =
+      let n = d .first in
       let t : replayText n (take (d .records) answers) (d .stopped) (d .at) ≡ textOf given =
-      rw (numbers, e, ← ap (λ (x : Given). x .first) o, ← ap (λ (x : Given). x .stopped) o, ← ap (λ (x : Given). x .at) o) in
+      rw (numbers, ← ap (λ (x : Given). x .first) o, ← ap (λ (x : Given). x .stopped) o, ← ap (λ (x : Given). x .at) o) in
       rw (le-ltb _ _ u, ← t) (record { count = p; buffer = q; replayed = ap (λ (x : Given). x .arena) o })

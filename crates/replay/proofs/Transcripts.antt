@@ -9,6 +9,10 @@ use lib.ListN.{length, length-replicate}
 use borrow.Author.Tests.{lt-ltb, le-ltb}
 use Rattle.format.proofs.Tests.{by-bool}
 use Rattle.format.proofs.Below.{below-replicate}
+use Rattle.layout.specs.Figures.{maxLanes}
+use Rattle.machine.specs.state.Lane.{noLane}
+use Rattle.machine.specs.claims.Making.{FreshRoom}
+use Rattle.machine.specs.claims.Exhibit.{exhibitWanted}
 use Rattle.machine.proofs.exhibit.Run.{made, exhibited}
 use Rattle.runlog.specs.Log.{logOf}
 use Rattle.replaying.specs.Replay.{replayOf}
@@ -16,7 +20,7 @@ use Rattle.replaying.specs.Claims.{replies}
 use Rattle.replaying.proofs.Claimed.{replay-claim}
 use Rattle.text.specs.Text.{digits, refusedText}
 use Rattle.text.specs.Replay.{replayText}
-use Rattle.replay.specs.Transcript.{maxArena, textOf, workBuffer, transcriptOf}
+use Rattle.replay.specs.Transcript.{maxArena, textOf, workBuffer, lent, transcriptOf}
 use Rattle.replay.specs.Claims.{TranscriptClaim}
 
 -- an arena that is not too long is replayed
@@ -29,6 +33,10 @@ replayed a log u = rw (le-ltb maxArena (length a) u)
 no-offset : (ns : List ℕ) (at at′ : ℕ) → replayText 0 ns false at ≡ replayText 0 ns false at′
 unfolding replayText
 no-offset ns at at′ = refl
+
+-- the made arena of case 9 opens with what is lent
+room : FreshRoom exhibitWanted lent
+room = record { bytes = omega arith; records = omega (arith, length-replicate maxLanes noLane) }
 
 pub transcript-claim : TranscriptClaim
 transcript-claim = record {
@@ -43,5 +51,5 @@ transcript-claim = record {
       (λ t. simp (replayed a log (omega arith), q .0, p .answers, p .stops t .0, p .stops t .1, p .arena, t))
       (λ t. rw (t, no-offset (replies a workBuffer log) ((logOf log) .at) 0)
       (simp (replayed a log (omega arith), q .0, p .answers, p .whole t .0, p .whole t .1, p .arena)));
-  exhibited = (made .bytes .size ∙ length-replicate {A = ℕ} 49152 0, exhibited 16 (inl refl) .small, made .opens 16 (inl refl) .number workBuffer (omega arith));
+  exhibited = (made .bytes .size ∙ length-replicate {A = ℕ} 49152 0, exhibited 16 (inl refl) .small, made .opens 16 (inl refl) .number lent room);
 }

@@ -5,9 +5,10 @@ use mathlib.Core.List.{List, _++_}
 use Prim.Native.Nat.{ℕ}
 use lib.Dec.{ltb}
 use lib.ListN.{length, drop, replicate}
+use Rattle.machine.specs.calls.Opening.{Room}
 use Rattle.text.specs.Text.{refusedText}
 use Rattle.text.specs.Replay.{replayText}
-use Rattle.replaying.specs.Replay.{Replay, replayOf}
+use Rattle.replaying.specs.Replay.{Replay, ownTable, roomOf, replayOf}
 
 -- the longest arena that is opened, in bytes
 abbrev pub maxArena : ℕ
@@ -25,6 +26,10 @@ textOf p = replayText (p .first) (p .numbers) (p .stopped) (p .at)
 -- the work buffer that an arena is opened with
 abbrev pub workBuffer : List ℕ
 workBuffer = replicate 128 0
+
+-- what its first opening is lent: that buffer, and the replay's own table
+abbrev pub lent : Room
+lent = roomOf workBuffer ownTable
 
 -- a longer arena is refused with 1, and nothing is replayed
 unfoldable pub transcriptOf : List ℕ → List ℕ → Transcript

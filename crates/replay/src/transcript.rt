@@ -19,8 +19,7 @@ pub fn transcript(arena: &mut [u8], log: &[u8], out: &mut [u8; 65536]) -> usize
     let mut work = [0u8; 128];
     let mut answers = [0u8; 2048];
     let done = replay(arena, &mut work, log, &mut answers);
-    let first = done.first;
-    let number = first.number();
+    let number = done.first;
     put_replay(
         out,
         number,

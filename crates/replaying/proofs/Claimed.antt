@@ -6,7 +6,7 @@ use mathlib.Core.Bool.{false}
 use mathlib.Core.List.{List, [], _∷_, _++_, map}
 use Prim.Native.Nat.{ℕ, suc, _+_, _≤_, _<_}
 use native.Mathlib.Omega.{arith}
-use lib.Dec.{leb}
+use lib.Dec.{eqb, leb}
 use lib.ListN.{length, drop, replicate, length-append, length-replicate}
 use lib.Seq.{drop-at}
 use borrow.Author.Tests.{leb-true, leb-false, le-ltb, ne-eqb}
@@ -19,16 +19,16 @@ use Rattle.layout.specs.Place.{layoutOf}
 use Rattle.layout.specs.Told.{aloneNear}
 use Rattle.layout.specs.declared.Figures.{Figures}
 use Rattle.machine.specs.Rules.{answer}
-use Rattle.machine.specs.state.Handle.{Handle}
-use Rattle.machine.specs.calls.Opening.{Opening, figuresIn, openOf}
+use Rattle.machine.specs.calls.Opening.{Room, extentOf, Opening, figuresIn, openOf}
 use Rattle.machine.specs.calls.Reading.{readOf}
-use Rattle.machine.specs.calls.History.{State, Reply, opened, afterEvent, replyEvents, runEvents, openedFrom}
-use Rattle.machine.specs.models.Row.{Sector, holds, Row, storesOf, wordByWord, rowNumber, rowRead, rowOpenNumber, rowAfterEvent, rowReplies, firstRow, reopened}
+use Rattle.machine.specs.calls.History.{State, Reply, opened, afterEvent, openedFrom}
+use Rattle.machine.specs.models.Row.{Sector, Row, storesOf, wordByWord, rowNumber, rowRead, rowOpenNumber, rowAfterEvent, rowReplies, firstRow, reopened}
 use Rattle.machine.proofs.opening.Described.{described-figures}
 use Rattle.machine.proofs.opening.Opening.{opening-claim}
 use Rattle.machine.proofs.opening.Opens.{open-zero, opened-figures, opened-idle}
+use Rattle.machine.specs.words.Valid.{RoomFor}
 use Rattle.machine.specs.claims.Rest.{RestKept}
-use Rattle.machine.proofs.calls.Packing.{packing-claim}
+use Rattle.machine.proofs.opening.Room.{table-suffices}
 use Rattle.machine.proofs.calls.Kept.{opened-kept}
 use Rattle.machine.proofs.calls.Rest.{rest-keeps}
 use Rattle.machine.proofs.invariant.Held.{held-open, held-whole}
@@ -41,9 +41,10 @@ use Rattle.runlog.specs.Log.{maxLog, logOf}
 use Rattle.runlog.specs.Claims.{AllFit}
 use Rattle.runlog.specs.declared.record.Record.{Record}
 use Rattle.runlog.proofs.Logs.{log-claim}
-use Rattle.replaying.specs.Replay.{Point, Replay, openedPoint, ran, runAll, answersAll, replayFrom, replayOf}
+use Rattle.replaying.specs.Replay.{Point, Replay, ownTable, roomOf, openedPoint, ran, runAll, answersAll, replayFrom, replayOf}
 use Rattle.replaying.specs.Ledger.{Written, asOpened, by, Ledger, noLines, cutNoted, allNoted}
 use Rattle.replaying.specs.Claims.{CutsOpen, SectorReads, ReadsBy, numbers, last, events, ReplayFor, RefusedFor, ReplayClaim}
+use Rattle.replaying.proofs.Spare.{spare-open}
 use Rattle.replaying.proofs.Noted.{SectorNoted, Noted, reopened-noted}
 use Rattle.replaying.proofs.Follows.{stateOf, Cleared, Sized, events-small, Followed, follow}
 
@@ -90,31 +91,34 @@ module _ (f : Figures) (z : Sized f) where
 
 -- ---- the first opening
 
-module _ (a work : List ℕ) (small : Small a) (small-work : Small work) (e : (openOf aloneNear a work) .number ≡ 0) where
+module _ (a work : List ℕ) (small : Small a) (small-work : Small work) (e : (openOf aloneNear a (roomOf work ownTable)) .number ≡ 0) where
+  abbrev lent : Room
+  lent = roomOf work ownTable
+
   abbrev first : State
-  first = openedFrom aloneNear a work
+  first = openedFrom aloneNear a lent
 
   abbrev f : Figures
   f = first .handle .figures
 
   figures-are : f ≡ figuresIn a
-  figures-are = opened-figures aloneNear a work e
+  figures-are = opened-figures aloneNear a lent e
 
   rep₀ : RepIn aloneNear (firstRow first) first
-  rep₀ = first-rep aloneNear first (held-open aloneNear a work small e) (opened-idle aloneNear a work e)
+  rep₀ = first-rep aloneNear first (held-open aloneNear a lent small e) (opened-idle aloneNear a lent e)
 
   room : (figuresIn a) .blocks ≤ length work
-  room = unfold layoutOf in (opening-claim aloneNear .answers a work small .accepts e .1)
+  room = opening-claim aloneNear .answers a lent small .accepts e .1 .bytes
 
   sized : Sized f
   sized = record {
     whole = unfold layoutOf in (held-whole aloneNear (first .arena) (first .handle) (rep₀ .held));
     size =
-        let d = open-zero aloneNear a (length work) (unfold openOf in e) .0 .info in
+        let d = open-zero aloneNear a (extentOf lent) (unfold openOf in e) .0 .info in
         rw figures-are (pair-fitting _ _ (described-figures aloneNear a d .sizes) .most);
   }
 
-  cleared : Cleared f ((openOf aloneNear a work) .work)
+  cleared : Cleared f ((openOf aloneNear a lent) .work)
   cleared = rw (figures-are, work-is) (record {
     small = below-append 256 (replicate n 0) (drop n work) (below-replicate 256 n 0 (omega arith)) (below-drop 256 n work small-work);
     room = omega (arith, length-append (replicate n 0) (drop n work), length-replicate {A = ℕ} n 0);
@@ -124,29 +128,24 @@ module _ (a work : List ℕ) (small : Small a) (small-work : Small work) (e : (o
       n : ℕ
       n = (figuresIn a) .blocks
 
-      work-is : (openOf aloneNear a work) .work ≡ replicate ((figuresIn a) .blocks) 0 ++ drop ((figuresIn a) .blocks) work
-      work-is = unfold layoutOf in (opening-claim aloneNear .work a work .cleared (inl e))
+      work-is : (openOf aloneNear a lent) .work ≡ replicate ((figuresIn a) .blocks) 0 ++ drop ((figuresIn a) .blocks) work
+      work-is = unfold layoutOf in (opening-claim aloneNear .work a lent .cleared (inl e))
 
   -- ---- the records of a log
 
   module _ (log : List ℕ) (small-log : Small log) where
     abbrev x : Point
-    x = openedPoint (openOf aloneNear a work)
-
-    first-state : stateOf x ≡ first
-    first-state = ap (λ (h : Handle). record { arena = (openOf aloneNear a work) .arena; handle = h }) (packing-claim .opened 16 a work e)
-
-    first-figures : x .handle .figures ≡ f
-    first-figures = ap (λ (y : State). y .handle .figures) first-state
+    x = openedPoint (openOf aloneNear a lent)
 
     abbrev records : List Record
     records = (logOf log) .records
 
-    followed : Followed (firstRow first) ((openOf aloneNear a work) .work) f sized cleared 0 x records (firstRow first) noLines
-    followed = follow (firstRow first) ((openOf aloneNear a work) .work) f sized cleared records 0 x (firstRow first) noLines first-figures
+    followed : Followed (firstRow first) ((openOf aloneNear a lent) .work) f sized cleared 0 x records (firstRow first) noLines
+    followed = follow (firstRow first) ((openOf aloneNear a lent) .work) f sized cleared records 0 x (firstRow first) noLines refl
         (record {
-          rep = subst (λ (y : State). RepIn aloneNear (firstRow first) y) (sym first-state) rep₀;
+          rep = rep₀;
           work = refl;
+          table = rw figures-are (spare-open a work);
           noted = record { lane = λ l. tt; sector = λ s. refl };
         })
         (fit-records log small-log) (count-records log)
@@ -159,7 +158,7 @@ module _ (a work : List ℕ) (small : Small a) (small-work : Small work) (e : (o
     end = last a work log
 
     last-is : stateOf (runAll 0 x records) ≡ end
-    last-is = followed .state ∙ ap (λ (y : State). runEvents aloneNear y (events a work log)) first-state
+    last-is = followed .state
 
     rep-last : RepIn aloneNear (followed .row) end
     rep-last = subst (λ (y : State). RepIn aloneNear (followed .row) y) last-is (followed .stands .rep)
@@ -168,8 +167,8 @@ module _ (a work : List ℕ) (small : Small a) (small-work : Small work) (e : (o
     last-figures = ap (λ (y : State). y .handle .figures) (sym last-is) ∙ followed .figures
 
     -- opened again
-    module _ (again : List ℕ) (u : (figuresIn a) .blocks ≤ length again) where
-      room-is : end .handle .figures .blocks ≤ length again
+    module _ (again : Room) (u : RoomFor (figuresIn a) again) where
+      room-is : RoomFor (end .handle .figures) again
       room-is = rw (last-figures, figures-are) u
 
       opens : (openOf aloneNear (end .arena) again) .number ≡ 0
@@ -180,9 +179,9 @@ module _ (a work : List ℕ) (small : Small a) (small-work : Small work) (e : (o
 
       row-again : rowAfterEvent wordByWord (end .handle .figures) (followed .row) (opened again) ≡ reopened f (followed .row)
       unfolding rowAfterEvent rowOpenNumber answer
-      row-again = rw (le-ltb _ _ room-is, last-figures)
+      row-again = rw (le-ltb _ _ (room-is .bytes), le-ltb _ _ (room-is .records), last-figures)
 
-      rep-again : Small again → RepIn aloneNear (reopened f (followed .row)) (openedFrom aloneNear (end .arena) again)
+      rep-again : Small (again .work) → RepIn aloneNear (reopened f (followed .row)) (openedFrom aloneNear (end .arena) again)
       rep-again q = subst (λ (y : State). RepIn aloneNear (reopened f (followed .row)) y) opened-again
           (subst (λ (y : Row). RepIn aloneNear y (afterEvent aloneNear end (opened again))) row-again
           (event-rep aloneNear (followed .row) end rep-last (opened again) q))
@@ -209,12 +208,11 @@ module _ (a work : List ℕ) (small : Small a) (small-work : Small work) (e : (o
       count = ap (λ (ns : List ℕ). length ns) numbers-are ∙ answers-length 0 x records;
       whole = λ t. rw (replay-is, t) (refl, refl);
       stops = λ t. rw (replay-is, t) (refl, refl);
-      answers = numbers-are
-          ∙ followed .numbers ∙ ap (λ (y : State). map (λ (r : Reply). r .number) (replyEvents aloneNear y (events a work log))) first-state;
+      answers = numbers-are ∙ followed .numbers;
       arena = rw replay-is (ap (λ (y : State). y .arena) last-is);
       buffer = rw replay-is (followed .stands .work);
       cuts = subst (CutsOpen records) (sym numbers-are) (followed .cuts);
-      rest = rw (replay-is, ap (λ (y : State). y .arena) last-is) (opened-kept RestKept rest-keeps aloneNear a work (events a work log) small
+      rest = rw (replay-is, ap (λ (y : State). y .arena) last-is) (opened-kept RestKept rest-keeps aloneNear a lent (events a work log) small
           (events-small (firstRow first) _ f cleared records 0 (fit-records log small-log)) e);
       sectors = subst (λ (ns : List ℕ). ReadsBy first end ((lines ns) .sector)) (sym numbers-are)
           (reads-by f sized first end (firstRow first) (followed .row) (lines given) refl last-figures rep₀ rep-last (followed .stands .noted));
@@ -228,9 +226,9 @@ module _ (a work : List ℕ) (small : Small a) (small-work : Small work) (e : (o
 
 -- ---- a refused opening
 
-module _ (a work log : List ℕ) (n : (openOf aloneNear a work) .number ≢ 0) where
+module _ (a work log : List ℕ) (n : (openOf aloneNear a (roomOf work ownTable)) .number ≢ 0) where
   abbrev o : Opening
-  o = openOf aloneNear a work
+  o = openOf aloneNear a (roomOf work ownTable)
 
   refused-is : replayOf a work log ≡ record { first = o .number; numbers = []; stopped = false; at = 0; arena = o .arena; work = o .work }
   unfolding replayOf
@@ -242,13 +240,24 @@ module _ (a work log : List ℕ) (n : (openOf aloneNear a work) .number ≢ 0) w
     numbers = rw refused-is;
     stopped = rw refused-is;
     at = rw refused-is;
-    arena = rw refused-is (opening-claim aloneNear .refused a work n .arena);
+    arena = rw refused-is (opening-claim aloneNear .refused a (roomOf work ownTable) n .arena);
     buffer = rw refused-is;
   }
+
+-- ---- its own table
+
+enough : (a work : List ℕ) → (openOf aloneNear a (roomOf work ownTable)) .number ≢ 21
+enough a work = table-suffices aloneNear a (roomOf work ownTable) (omega arith)
+
+never-short : (a work log : List ℕ) → (replayOf a work log) .first ≢ 21
+unfolding replayOf
+never-short a work log e = by-bool (eqb ((openOf aloneNear a (roomOf work ownTable)) .number) 0) _
+    (λ t. let z : _≡_ {A = ℕ} 0 21 = rw t at e in omega arith) (λ t. enough a work (rw t at e))
 
 pub replay-claim : ReplayClaim
 replay-claim = record {
   opened = λ a work log small small-work small-log e.
       (ap (λ (p : Replay). p .first) (replay-is a work small small-work e log small-log), replay-for a work small small-work e log small-log);
   refused = refused-for;
+  long = never-short;
 }

@@ -16,7 +16,7 @@ use Rattle.machine.specs.calls.Opening.{figuresIn, openOf}
 use Rattle.machine.specs.calls.Reading.{readOf}
 use Rattle.machine.specs.calls.History.{Reply, openedFrom}
 use Rattle.machine.specs.models.Row.{Row, wordByWord, rowReplies, firstRow}
-use Rattle.machine.specs.claims.Exhibit.{exhibitFound, exhibitWork}
+use Rattle.machine.specs.claims.Exhibit.{exhibitFound}
 use Rattle.machine.proofs.opening.Opening.{opening-claim}
 use Rattle.machine.proofs.opening.Opens.{opened-figures}
 use Rattle.machine.proofs.exhibit.Run.{made, exhibited}
@@ -25,10 +25,10 @@ use Rattle.runlog.specs.declared.record.Record.the-variants.{Start, Step, Cut, 
 use Rattle.runlog.specs.Log.{Log, logOf}
 use Rattle.runlog.specs.Claims.{bytesOf, Fits, allBytes, AllFit}
 use Rattle.runlog.proofs.Logs.{log-claim}
-use Rattle.replaying.specs.Replay.{rising}
+use Rattle.replaying.specs.Replay.{rising, ownTable, roomOf}
 use Rattle.replaying.specs.Ledger.{Written, by, noLines, allLanded, allNoted}
 use Rattle.replaying.specs.Claims.{SectorReads, eventsOf, numbers, last, ledger}
-use Rattle.replaying.specs.Exhibit.{exhibitRecords, exhibitLog, ReplayExhibited}
+use Rattle.replaying.specs.Exhibit.{exhibitRecords, exhibitLog, exhibitWork, ReplayExhibited}
 use Rattle.replaying.proofs.Lent.{rising-at}
 use Rattle.replaying.proofs.Claimed.{numbers-in-row, replay-claim}
 use Rattle.replaying.proofs.Flown.{replay-numbers}
@@ -89,19 +89,19 @@ ledger-is : (allNoted 133 4 noLines 0 exhibitRecords (0 ∷ (replicate 132 0 ++ 
 unfolding allNoted allLanded rising
 ledger-is = refl
 
-module _ (a work : List ℕ) (small : Small a) (small-work : Small work) (e : (openOf aloneNear a work) .number ≡ 0)
+module _ (a work : List ℕ) (small : Small a) (small-work : Small work) (e : (openOf aloneNear a (roomOf work ownTable)) .number ≡ 0)
     (figures : figuresIn a ≡ freshFigures 512 60 4) (room : 64 ≤ length work) where
   abbrev f : Figures
-  f = (openedFrom aloneNear a work) .handle .figures
+  f = (openedFrom aloneNear a (roomOf work ownTable)) .handle .figures
 
   abbrev w : List ℕ
-  w = (openOf aloneNear a work) .work
+  w = (openOf aloneNear a (roomOf work ownTable)) .work
 
   abbrev first-row : Row
-  first-row = firstRow (openedFrom aloneNear a work)
+  first-row = firstRow (openedFrom aloneNear a (roomOf work ownTable))
 
   figures-are : f ≡ freshFigures 512 60 4
-  figures-are = opened-figures aloneNear a work e ∙ figures
+  figures-are = opened-figures aloneNear a (roomOf work ownTable) e ∙ figures
 
   size-is : f .size ≡ 512
   unfolding freshFigures
@@ -117,7 +117,7 @@ module _ (a work : List ℕ) (small : Small a) (small-work : Small work) (e : (o
 
   work-room : f .blocks ≤ length w
   unfolding freshFigures
-  work-room = rw (figures-are, opening-claim aloneNear .work a work .size) room
+  work-room = rw (figures-are, opening-claim aloneNear .work a (roomOf work ownTable) .size) room
 
   records-are : (logOf exhibitLog) .records ≡ exhibitRecords
   records-are = ap (λ (l : Log). l .records) log-is
@@ -156,14 +156,15 @@ replay-exhibited =
     let k = exhibited 16 (inl refl) in
     let u : 64 ≤ length exhibitWork = omega (arith, length-replicate {A = ℕ} 64 0) in
     let z : Small exhibitWork = below-replicate 256 64 0 (omega arith) in
+    let o = made .opens 16 (inl refl) .number (roomOf exhibitWork ownTable) (record { bytes = u; records = omega arith }) in
     record {
       small = k .small;
       small-work = z;
       small-log = log-small exhibitRecords;
-      opens = k .opens;
+      opens = o;
       size = log-length;
-      records = records-are exhibitFound exhibitWork (k .small) z (k .opens) (made .figures) u;
-      numbers = numbers-are exhibitFound exhibitWork (k .small) z (k .opens) (made .figures) u;
-      written = written-is exhibitFound exhibitWork (k .small) z (k .opens) (made .figures) u;
-      words = words-are exhibitFound exhibitWork (k .small) z (k .opens) (made .figures) u;
+      records = records-are exhibitFound exhibitWork (k .small) z o (made .figures) u;
+      numbers = numbers-are exhibitFound exhibitWork (k .small) z o (made .figures) u;
+      written = written-is exhibitFound exhibitWork (k .small) z o (made .figures) u;
+      words = words-are exhibitFound exhibitWork (k .small) z o (made .figures) u;
     }

@@ -10,11 +10,12 @@ use Rattle.format.specs.declared.numbers.LaneNo.{LaneNo}
 use Rattle.format.specs.Tests.{some}
 use Rattle.layout.specs.declared.Figures.{Figures}
 use Rattle.machine.specs.Rules.{answer}
+use Rattle.machine.specs.calls.Opening.{extentOf}
 use Rattle.machine.specs.calls.History.{says, start, step, Reply, Event, called}
 use Rattle.machine.specs.models.Row.{idle, flying, Row, wordByWord, rowNumber, rowReply, rowAfter, rowOpenNumber, rowReplyEvent, rowAfterEvent, rowReplies}
 use Rattle.runlog.specs.declared.record.Record.{Record}
 use Rattle.runlog.specs.declared.record.Record.the-variants.{Start, Step, Cut}
-use Rattle.replaying.specs.Replay.{stepBytes}
+use Rattle.replaying.specs.Replay.{stepBytes, ownTable, roomOf}
 use Rattle.replaying.specs.Claims.{eventsOf}
 use Rattle.replaying.proofs.Lent.{lent-length}
 
@@ -67,9 +68,9 @@ module _ (f : Figures) (size : f .size ≡ 512) (sectors : f .sectors ≡ 60) (l
     unfolding rowNumber answer some
     busy-sector = let e : row .lane 1 ≡ idle = a .others 0 in rw (lanes, sectors, a .own, e)
 
-    cut-number : rowOpenNumber f (length w) ≡ 0
+    cut-number : rowOpenNumber f (extentOf (roomOf w ownTable)) ≡ 0
     unfolding rowOpenNumber answer
-    cut-number = rw (le-ltb (length w) (f .blocks) room)
+    cut-number = rw (le-ltb (length w) (f .blocks) room, lanes)
 
     ending-numbers : (j : ℕ) → numbersIn row (eventsOf (f .size) w j ending) ≡ 13 ∷ 0 ∷ []
     unfolding eventsOf says rowReplyEvent rowReply rowAfterEvent rowAfter

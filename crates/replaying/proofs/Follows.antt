@@ -16,8 +16,7 @@ use Rattle.layout.specs.Sizes.{maxSize}
 use Rattle.layout.specs.Told.{aloneNear}
 use Rattle.layout.specs.declared.Figures.{Figures}
 use Rattle.machine.specs.Rules.{answer}
-use Rattle.machine.specs.calls.Opening.{Opening, openOf}
-use Rattle.machine.specs.state.Handle.{Handle}
+use Rattle.machine.specs.calls.Opening.{Opening, extentOf, openOf}
 use Rattle.machine.specs.calls.History.{
   says,
   runs,
@@ -37,17 +36,19 @@ use Rattle.machine.specs.calls.History.{
   SmallEvent,
   SmallEvents,
 }
-use Rattle.machine.specs.models.Row.{Row, storesOf, wordByWord, rowNumber, rowReply, rowAfter, rowOpenNumber, rowReplyEvent, rowAfterEvent, rowReplies}
-use Rattle.machine.proofs.calls.Packing.{packing-claim}
+use Rattle.machine.specs.models.Row.{Row, storesOf, wordByWord, rowNumber, rowReply, rowAfter, rowOpenNumber, rowWork, rowReplyEvent, rowAfterEvent, rowReplies}
+use Rattle.machine.specs.words.Valid.{RoomFor}
+use Rattle.machine.proofs.invariant.Held.{held-long}
 use Rattle.machine.proofs.invariant.Histories.{alike-event}
 use Rattle.machine.proofs.row.Events.{RepIn, accepted, event-reply, event-rep}
 use Rattle.runlog.specs.declared.record.Record.{Record}
 use Rattle.runlog.specs.declared.record.Record.the-variants.{Start, Step, Cut, Refused}
 use Rattle.runlog.specs.Claims.{Fits, AllFit}
-use Rattle.replaying.specs.Replay.{Point, openedPoint, stepBytes, ran, answered, runAll, answersAll}
+use Rattle.replaying.specs.Replay.{Point, ownTable, roomOf, stepBytes, ran, answered, runAll, answersAll}
 use Rattle.replaying.specs.Ledger.{Ledger, noted, allNoted}
 use Rattle.replaying.specs.Claims.{eventOf, eventsOf, CutsOpen}
 use Rattle.replaying.proofs.Lent.{lent-small, lent-length, lent-word}
+use Rattle.replaying.proofs.Spare.{Spare, spare-call, spare-open, open-same}
 use Rattle.replaying.proofs.Noted.{Noted, started-noted, stepped-noted, reopened-noted}
 
 -- a point without its work buffer
@@ -70,6 +71,7 @@ module _ (row₀ : Row) (w : List ℕ) where
   pub record Stands (f : Figures) (s : Sized f) (x : Point) (row : Row) (k : Ledger) : Type 0 where
     pub rep : RepIn aloneNear row (stateOf x)
     pub work : x .work ≡ w
+    pub table : Spare (f .lanes) (x .handle .table)
     pub noted : Noted f (s .whole) row₀ row k
 
   -- one record
@@ -77,6 +79,7 @@ module _ (row₀ : Row) (w : List ℕ) where
     number : answered i x r ≡ (replyEvent aloneNear (stateOf x) (eventOf (f .size) w i r)) .number
     state : stateOf (ran i x r) ≡ afterEvent aloneNear (stateOf x) (eventOf (f .size) w i r)
     work : (ran i x r) .work ≡ w
+    table : Spare (f .lanes) ((ran i x r) .handle .table)
     opens : CutsOpen (r ∷ []) (answered i x r ∷ [])
     noted : Noted f (s .whole) row₀ (rowAfterEvent wordByWord f row (eventOf (f .size) w i r)) (noted (storesOf f) (f .lanes) k i r (answered i x r))
 
@@ -95,6 +98,7 @@ module _ (row₀ : Row) (w : List ℕ) where
       number = refl;
       state = refl;
       work = d .work;
+      table = spare-call (x .arena) (x .handle) (start (l .0) (t .0)) (d .table);
       opens = tt;
       noted = rw (call-same (start (l .0) (t .0))) (by-bool (eqb (rowNumber f row (start (l .0) (t .0))) 0) _
           (λ z. rw z (started-noted f (s .whole) row₀ row k (d .noted) (l .0) (t .0))) (λ z. rw z (d .noted)));
@@ -109,6 +113,7 @@ module _ (row₀ : Row) (w : List ℕ) where
       number = refl;
       state = refl;
       work = d .work;
+      table = spare-call (x .arena) (x .handle) (step (l .0) buffer) (d .table);
       opens = tt;
       noted = rw (call-same (step (l .0) buffer)) (by-bool (eqb (rowNumber f row (step (l .0) buffer)) 0) _
           (λ z. rw z (stepped-noted f (s .whole) row₀ row k (d .noted) (l .0) i buffer (lent-length (f .size) i (s .size))
@@ -118,32 +123,43 @@ module _ (row₀ : Row) (w : List ℕ) where
 
     -- an opening is accepted, in the arena and in the row
     module _ (c : Cleared f w) where
+      -- with a fresh table, and with the table as it is
       abbrev o : Opening
-      o = openOf aloneNear (x .arena) w
+      o = openOf aloneNear (x .arena) (roomOf w ownTable)
+
+      abbrev o′ : Opening
+      o′ = openOf aloneNear (x .arena) (roomOf w (x .handle .table))
+
+      room : RoomFor f (roomOf w ownTable)
+      room = record { bytes = c .room; records = omega (arith, held-long aloneNear (x .arena) (x .handle) (d .rep .held), d .table .size) }
 
       open-zero : o .number ≡ 0
-      open-zero = accepted aloneNear row (stateOf x) (d .rep) w (c .room)
+      open-zero = accepted aloneNear row (stateOf x) (d .rep) (roomOf w ownTable) room
 
-      row-zero : rowOpenNumber f (length w) ≡ 0
+      row-zero : rowOpenNumber f (extentOf (roomOf w ownTable)) ≡ 0
       unfolding rowOpenNumber answer
-      row-zero = rw (le-ltb (length w) (f .blocks) (c .room))
+      row-zero = rw (le-ltb (length w) (f .blocks) (c .room), le-ltb (length ownTable) (f .lanes) (room .records))
 
       open-work : o .work ≡ w
       open-work =
-          ap (λ (y : Reply). y .buffer) (event-reply aloneNear row (stateOf x) (d .rep) (opened w))
-          ∙ unfold rowReplyEvent in (rw row-zero (c .same))
+          ap (λ (y : Reply). y .buffer) (event-reply aloneNear row (stateOf x) (d .rep) (opened (roomOf w ownTable)))
+          ∙ unfold rowReplyEvent rowWork in (rw (le-ltb (length w) (f .blocks) (c .room)) (c .same))
 
-      open-state : stateOf (openedPoint o) ≡ afterEvent aloneNear (stateOf x) (opened w)
-      open-state = rw open-zero (ap (λ (h : Handle). record { arena = o .arena; handle = h }) (packing-claim .opened 16 (x .arena) w open-zero))
+      same : o′ ≡ o
+      same = open-same (x .arena) w (x .handle .table) (rw (d .rep .held .good .figures) (d .table)) open-zero
+
+      also-zero : o′ .number ≡ 0
+      also-zero = ap (λ (y : Opening). y .number) same ∙ open-zero
 
       cut-one : One f s i x Cut row k
       unfolding rowAfterEvent CutsOpen
       cut-one = rw (d .work) (record {
-        number = refl;
-        state = open-state;
-        work = open-work;
-        opens = (open-zero, tt);
-        noted = rw (open-zero, row-zero) (reopened-noted f (s .whole) row₀ row k (d .noted));
+        number = ap (λ (y : Opening). y .number) same;
+        state = rw (same, open-zero);
+        work = rw same open-work;
+        table = rw same (rw (d .rep .held .good .figures) at (spare-open (x .arena) w));
+        opens = (also-zero, tt);
+        noted = rw (also-zero, row-zero) (reopened-noted f (s .whole) row₀ row k (d .noted));
       })
 
     one : Cleared f w → i ≤ 8192 → (r : Record) → Fits r → One f s i x r row k
@@ -219,6 +235,7 @@ module _ (row₀ : Row) (w : List ℕ) where
         let d′ : Stands f s (ran i x r) row′ (noted (storesOf f) (f .lanes) k i r (answered i x r)) = record {
           rep = subst (λ (y : State). RepIn aloneNear row′ y) (sym (a .state)) (q .rep);
           work = a .work;
+          table = a .table;
           noted = a .noted;
         } in
         let h = follow rs (suc i) (ran i x r) row′ (noted (storesOf f) (f .lanes) k i r (answered i x r)) g′ d′ (p .1) (omega arith) in

@@ -1,11 +1,15 @@
 pub mod Claimed
+pub mod Did
 pub mod Exhibit
 pub mod Flown
 pub mod Follows
 pub mod Lent
 pub mod Noted
 pub mod Numbers
-pub mod Outcomes
-pub mod Packed
 pub mod Rest
+pub mod Spare
 pub mod Words
+pub mod Covered
+pub mod Values
+pub mod Contracts
+pub mod Turns

@@ -8,14 +8,15 @@ use Prim.Native.Nat.{ℕ, suc, _+_, _*_, _/_, _≤_, _<_}
 use lib.ListN.{length, getD}
 use Rattle.words.specs.Bytes.{Small, byteWord}
 use Rattle.layout.specs.Told.{aloneNear}
-use Rattle.machine.specs.calls.Opening.{figuresIn, openOf}
+use Rattle.machine.specs.calls.Opening.{Room, figuresIn, openOf}
 use Rattle.machine.specs.calls.Reading.{Read, readOf}
 use Rattle.machine.specs.calls.History.{start, step, read, State, Reply, Event, called, opened, replyEvents, runEvents, openedFrom}
+use Rattle.machine.specs.words.Valid.{RoomFor}
 use Rattle.machine.specs.claims.Rest.{RestKept}
 use Rattle.runlog.specs.declared.record.Record.{Record}
 use Rattle.runlog.specs.declared.record.Record.the-variants.{Start, Step, Cut, Refused}
 use Rattle.runlog.specs.Log.{logOf}
-use Rattle.replaying.specs.Replay.{stepBytes, replayOf}
+use Rattle.replaying.specs.Replay.{stepBytes, ownTable, roomOf, replayOf}
 use Rattle.replaying.specs.Ledger.{Written, asOpened, by, Ledger, noLines, cutNoted, allNoted}
 
 -- ---- the sector that a step lends
@@ -31,11 +32,11 @@ StepsClaim = (size i : ℕ) → size ≤ 4104 → i ≤ 8192 → StepLends size 
 
 -- ---- a replay as a history
 
--- record i as a call or an opening; of the records that run none is refused
+-- record i as a call, or an opening that is lent that work buffer and an own table; of the records that run none is refused
 abbrev pub eventOf : ℕ → List ℕ → ℕ → Record → Event
 eventOf size work i (Start l s) = called (start (l .0) (s .0))
 eventOf size work i (Step l) = called (step (l .0) (stepBytes size i))
-eventOf size work i Cut = opened work
+eventOf size work i Cut = opened (roomOf work ownTable)
 eventOf size work i Refused = called (read 0 [])
 
 unfoldable pub eventsOf : ℕ → List ℕ → ℕ → List Record → List Event
@@ -74,10 +75,10 @@ ReadsBy x y sectors = (s : ℕ) (buffer : List ℕ) → s < x .handle .figures .
 module _ (a work log : List ℕ) where
   -- the first opening, with the work buffer as it left it, the records that ran and what they answered
   abbrev pub first : State
-  first = openedFrom aloneNear a work
+  first = openedFrom aloneNear a (roomOf work ownTable)
 
   abbrev pub cleared : List ℕ
-  cleared = (openOf aloneNear a work) .work
+  cleared = (openOf aloneNear a (roomOf work ownTable)) .work
 
   abbrev pub ranRecords : List Record
   ranRecords = (logOf log) .records
@@ -115,22 +116,24 @@ module _ (a work log : List ℕ) where
     pub rest : RestKept (figuresIn a) a ((replayOf a work log) .arena)
     -- its sectors, through the latest handle
     pub sectors : ReadsBy first last (ledger .sector)
-    -- and opened again with any work buffer that is long enough: the writes that lack one store are finished
-    pub opens : (room : List ℕ) → (figuresIn a) .blocks ≤ length room → (openOf aloneNear (last .arena) room) .number ≡ 0
-    pub reopened : (room : List ℕ) → Small room → (figuresIn a) .blocks ≤ length room
+    -- and opened again with any work buffer and any table that are long enough: the writes that lack one store are finished
+    pub opens : (room : Room) → RoomFor (figuresIn a) room → (openOf aloneNear (last .arena) room) .number ≡ 0
+    pub reopened : (room : Room) → Small (room .work) → RoomFor (figuresIn a) room
         → ReadsBy first (openedFrom aloneNear (last .arena) room) ((cutNoted stores (first .handle .figures .lanes) ledger) .sector)
 
 -- where the first opening is refused no record runs, and the arena is as it was
 pub record RefusedFor (a work log : List ℕ) : Type 0 where
-  pub first : (replayOf a work log) .first ≡ (openOf aloneNear a work) .number
+  pub first : (replayOf a work log) .first ≡ (openOf aloneNear a (roomOf work ownTable)) .number
   pub numbers : (replayOf a work log) .numbers ≡ []
   pub stopped : (replayOf a work log) .stopped ≡ false
   pub at : (replayOf a work log) .at ≡ 0
   pub arena : (replayOf a work log) .arena ≡ a
-  pub buffer : (replayOf a work log) .work ≡ (openOf aloneNear a work) .work
+  pub buffer : (replayOf a work log) .work ≡ (openOf aloneNear a (roomOf work ownTable)) .work
 
 -- any lent arena, any lent work buffer and any lent log
 pub record ReplayClaim : Type 0 where
-  pub opened : (a work log : List ℕ) → Small a → Small work → Small log → (openOf aloneNear a work) .number ≡ 0
+  pub opened : (a work log : List ℕ) → Small a → Small work → Small log → (openOf aloneNear a (roomOf work ownTable)) .number ≡ 0
       → ((replayOf a work log) .first ≡ 0) × ReplayFor a work log
-  pub refused : (a work log : List ℕ) → (openOf aloneNear a work) .number ≢ 0 → RefusedFor a work log
+  pub refused : (a work log : List ℕ) → (openOf aloneNear a (roomOf work ownTable)) .number ≢ 0 → RefusedFor a work log
+  -- its own table is never too short
+  pub long : (a work log : List ℕ) → (replayOf a work log) .first ≢ 21

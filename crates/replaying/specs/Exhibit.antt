@@ -8,12 +8,12 @@ use Rattle.words.specs.Bytes.{Small, byteWord}
 use Rattle.layout.specs.Told.{aloneNear}
 use Rattle.machine.specs.calls.Opening.{openOf}
 use Rattle.machine.specs.calls.Reading.{readOf}
-use Rattle.machine.specs.claims.Exhibit.{exhibitFound, exhibitWork}
+use Rattle.machine.specs.claims.Exhibit.{exhibitFound, exhibitRoom}
 use Rattle.runlog.specs.declared.record.Record.{Record}
 use Rattle.runlog.specs.declared.record.Record.the-variants.{Start, Step, Cut}
 use Rattle.runlog.specs.Log.{logOf}
 use Rattle.runlog.specs.Claims.{allBytes}
-use Rattle.replaying.specs.Replay.{rising, replayOf}
+use Rattle.replaying.specs.Replay.{rising, ownTable, roomOf, replayOf}
 use Rattle.replaying.specs.Ledger.{by}
 use Rattle.replaying.specs.Claims.{last, ledger}
 
@@ -26,12 +26,16 @@ exhibitRecords =
 abbrev pub exhibitLog : List ℕ
 exhibitLog = allBytes exhibitRecords
 
+-- the work buffer that is lent with it, of just I bytes
+abbrev pub exhibitWork : List ℕ
+exhibitWork = exhibitRoom .work
+
 pub record ReplayExhibited : Type 0 where
   -- the premise
   pub small : Small exhibitFound
   pub small-work : Small exhibitWork
   pub small-log : Small exhibitLog
-  pub opens : (openOf aloneNear exhibitFound exhibitWork) .number ≡ 0
+  pub opens : (openOf aloneNear exhibitFound (roomOf exhibitWork ownTable)) .number ≡ 0
   -- its 135 records and their answers: the refused start is 13
   pub size : length exhibitLog ≡ 816
   pub records : (logOf exhibitLog) .records ≡ exhibitRecords

@@ -1,19 +1,19 @@
 -- What a replay gave, in the form of its definition.
-use mathlib.Core.Bool.{Bool}
-use mathlib.Core.List.{List, _++_}
-use Prim.Native.Nat.{ℕ}
-use lib.ListN.{length, take, drop}
-use Rattle.machine.specs.declared.handle.Handle as packed
-use Rattle.machine.specs.state.Answer.{numberOf}
-use Rattle.machine.specs.state.Packed.{unpacked}
-use Rattle.runlog.specs.Log.{Log}
+use mathlib.Core.Bool.{Bool, cond}
+use mathlib.Core.List.{List, [], _∷_, _++_}
+use Prim.Native.Nat.{ℕ, suc}
+use lib.ListN.{length, take, drop, set}
+use Rattle.machine.specs.declared.handle.Handle as bare
+use Rattle.machine.specs.declared.lane.Lane.{Lane}
+use Rattle.machine.specs.state.Handle.{with}
+use Rattle.runlog.specs.Log.{Log, logFrom}
 use Rattle.replaying.specs.declared.Replayed.{Replayed}
-use Rattle.replaying.specs.declared.Ran.{Ran}
-use Rattle.replaying.specs.Replay.{Point, Replay, replayFrom}
+use Rattle.replaying.specs.declared.run.Stand.{Stand}
+use Rattle.replaying.specs.Replay.{Point, Replay, runAll, answersAll}
 
--- lent bytes and an array of records, as a point
-abbrev pub pointAt : List ℕ → List ℕ → packed.Handle → Point
-pointAt arena work p = record { arena = arena; work = work; handle = unpacked p }
+-- lent bytes, a handle and a table, as a point
+abbrev pub pointAt : List ℕ → List ℕ → bare.Handle → List Lane → Point
+pointAt arena work h table = record { arena = arena; work = work; handle = with h table }
 
 -- the answers in a lent buffer: the first that fit, and what they leave of it
 abbrev pub putAnswers : List ℕ → List ℕ → List ℕ
@@ -42,7 +42,7 @@ into p answers = record {
 
 abbrev pub gave : Replayed → List ℕ → List ℕ → List ℕ → Given
 gave r arena work answers = record {
-  first = numberOf (r .first);
+  first = r .first;
   records = r .records;
   stopped = r .stopped;
   at = r .at;
@@ -51,17 +51,42 @@ gave r arena work answers = record {
   answers = answers;
 }
 
--- the same of a log's records alone
-abbrev pub runInto : Log → Point → List ℕ → Given
-runInto log x answers = into (replayFrom log x) answers
+-- ---- what is left of a replay before the record at an offset
 
-abbrev pub gaveAll : Ran → List ℕ → List ℕ → List ℕ → Given
-gaveAll r arena work answers = record {
+-- numbers put into a buffer from place i on
+unfoldable pub putFrom : ℕ → List ℕ → List ℕ → List ℕ
+putFrom i [] answers = answers
+putFrom i (n ∷ ns) answers = putFrom (suc i) ns (set answers i n)
+
+-- so many more than i
+unfoldable pub countFrom : ℕ → List ℕ → ℕ
+countFrom i [] = i
+countFrom i (n ∷ ns) = countFrom (suc i) ns
+
+-- the records of a log from index i on, with those run before counted and their answers in place
+abbrev pub restOf : Log → ℕ → Point → List ℕ → Given
+restOf log i x answers = record {
   first = 0;
-  records = r .records;
-  stopped = r .stopped;
-  at = r .at;
+  records = countFrom i (answersAll i x (log .records));
+  stopped = log .stopped;
+  at = cond (log .stopped) (log .at) 0;
+  arena = (runAll i x (log .records)) .arena;
+  work = (runAll i x (log .records)) .work;
+  answers = putFrom i (answersAll i x (log .records)) answers;
+}
+
+-- where a replay has ended: nothing is left
+abbrev pub ended : Stand → List ℕ → List ℕ → List ℕ → Given
+ended s arena work answers = record {
+  first = 0;
+  records = s .index;
+  stopped = s .stopped;
+  at = cond (s .stopped) (s .at) 0;
   arena = arena;
   work = work;
   answers = answers;
 }
+
+-- from where it stands: the records from there on, or nothing where the log was refused
+unfoldable pub leftAt : List ℕ → Stand → Point → List ℕ → Given
+leftAt log s x answers = cond (s .stopped) (ended s (x .arena) (x .work) answers) (restOf (logFrom log (s .at)) (s .index) x answers)

@@ -3,3 +3,4 @@ pub mod Exhibit
 pub mod Gave
 pub mod Ledger
 pub mod Replay
+pub mod Stand

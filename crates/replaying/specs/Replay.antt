@@ -7,9 +7,11 @@ use lib.ListN.{take, replicate}
 use Rattle.words.specs.Word.{putWords}
 use Rattle.layout.specs.Sizes.{maxSize}
 use Rattle.layout.specs.Told.{aloneNear}
+use Rattle.layout.specs.Figures.{maxLanes}
+use Rattle.machine.specs.declared.lane.Lane.{Lane}
+use Rattle.machine.specs.state.Lane.{noLane}
 use Rattle.machine.specs.state.Handle.{Handle}
-use Rattle.machine.specs.state.Packed.{unpacked, packedUp}
-use Rattle.machine.specs.calls.Opening.{Opening, openOf}
+use Rattle.machine.specs.calls.Opening.{Room, Opening, openOf}
 use Rattle.machine.specs.calls.Writing.{Outcome, startOf, stepOf}
 use Rattle.runlog.specs.declared.record.Record.{Record}
 use Rattle.runlog.specs.declared.record.Record.the-variants.{Start, Step, Cut, Refused}
@@ -32,15 +34,23 @@ stepBytes size i = take size (wordsFor i (replicate maxSize 0))
 
 -- ---- one record
 
--- where a replay stands between two records
+-- where a replay stands between two records; its table is the handle's
 pub record Point : Type 0 where
   pub arena : List ℕ
   pub work : List ℕ
   pub handle : Handle
 
--- an opening leaves its handle, or after a refusal one of all zeroes
+-- its own table, with a record for each lane that there may be
+abbrev pub ownTable : List Lane
+ownTable = replicate maxLanes noLane
+
+-- what it lends to an opening
+abbrev pub roomOf : List ℕ → List Lane → Room
+roomOf work table = record { work = work; table = table }
+
+-- an opening leaves its handle and table, or after a refusal a handle of all zeroes
 abbrev pub openedPoint : Opening → Point
-openedPoint o = record { arena = o .arena; work = o .work; handle = unpacked (packedUp (o .handle)) }
+openedPoint o = record { arena = o .arena; work = o .work; handle = o .handle }
 
 abbrev pub outcomePoint : List ℕ → Outcome → Point
 outcomePoint work o = record { arena = o .arena; work = work; handle = o .handle }
@@ -49,14 +59,14 @@ outcomePoint work o = record { arena = o .arena; work = work; handle = o .handle
 abbrev pub ran : ℕ → Point → Record → Point
 ran i x (Start l s) = outcomePoint (x .work) (startOf (x .arena) (x .handle) (l .0) (s .0))
 ran i x (Step l) = outcomePoint (x .work) (stepOf (x .arena) (x .handle) (l .0) (stepBytes (x .handle .figures .size) i))
-ran i x Cut = openedPoint (openOf aloneNear (x .arena) (x .work))
+ran i x Cut = openedPoint (openOf aloneNear (x .arena) (roomOf (x .work) (x .handle .table)))
 ran i x Refused = x
 
 -- what record i answers
 abbrev pub answered : ℕ → Point → Record → ℕ
 answered i x (Start l s) = (startOf (x .arena) (x .handle) (l .0) (s .0)) .number
 answered i x (Step l) = (stepOf (x .arena) (x .handle) (l .0) (stepBytes (x .handle .figures .size) i)) .number
-answered i x Cut = (openOf aloneNear (x .arena) (x .work)) .number
+answered i x Cut = (openOf aloneNear (x .arena) (roomOf (x .work) (x .handle .table))) .number
 answered i x Refused = 20
 
 -- ---- all records, from index i on; a refused one does not end the replay
@@ -97,6 +107,6 @@ replayFrom log x =
 -- no record runs where the first opening is refused
 unfoldable pub replayOf : List ℕ → List ℕ → List ℕ → Replay
 replayOf a work log =
-    let o = openOf aloneNear a work in
+    let o = openOf aloneNear a (roomOf work ownTable) in
     cond (eqb (o .number) 0) (replayFrom (logOf log) (openedPoint o))
     (record { first = o .number; numbers = []; stopped = false; at = 0; arena = o .arena; work = o .work })

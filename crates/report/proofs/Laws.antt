@@ -1,23 +1,24 @@
 -- The report from what opening gave and what the text's functions left, outcome by outcome.
-use mathlib.Core.Path.{_≡_, refl, sym, ap, _∙_}
-use mathlib.Core.Bool.{true, false}
+use mathlib.Core.Path.{_≡_, refl, sym, ap₂, _∙_}
+use mathlib.Core.Logic.{_≢_}
 use mathlib.Core.List.{List, _++_}
 use Prim.Native.Nat.{ℕ, _≤_, _<_}
-use lib.Dec.{eqb}
+use native.Mathlib.Omega.{arith}
 use lib.ListN.{length, drop}
-use borrow.Author.Tests.{lt-ltb, le-ltb, eqb-true}
-use Rattle.layout.specs.Figures.{maxLanes}
+use borrow.Author.Tests.{lt-ltb, le-ltb, ne-eqb}
 use Rattle.layout.specs.Told.{aloneNear}
-use Rattle.machine.specs.state.Handle.{Handle}
-use Rattle.machine.specs.state.Packed.{unpacked}
+use Rattle.machine.specs.declared.handle.Handle as bare
+use Rattle.machine.specs.declared.lane.Lane.{Lane}
+use Rattle.machine.specs.state.Handle.{Handle, with}
 use Rattle.machine.specs.calls.Opening.{Opening, openOf}
-use Rattle.machine.specs.declared.handle.Handle as packed
-use Rattle.machine.proofs.calls.Packing.{packing-claim}
-use Rattle.machine.proofs.opening.Described.{described-figures}
-use Rattle.machine.proofs.opening.Opens.{open-zero, opened-figures}
-use Rattle.arena.specs.Calls.{PackedOpening, packedOpening}
+use Rattle.lanes.specs.Filled.{filledBy}
+use Rattle.arena.specs.Calls.{OpenGives}
+use Rattle.arena.specs.declared.open.Opened.{Opened}
+use Rattle.text.specs.Opened.{mostLanes, opened}
 use Rattle.text.specs.Text.{refusedText, openedText}
-use Rattle.report.specs.Report.{textOf, workBuffer, maxInput, reportOf, Reported}
+use Rattle.text.proofs.Laws.{opened-any}
+use Rattle.report.specs.Report.{textOf, lent, maxInput, reportOf, Reported}
+use Rattle.report.proofs.Suffices.{few-lanes}
 
 pub too-long : (a before after : List ℕ) (r : ℕ) → maxInput < length a → r ≡ length (refusedText 1)
     → after ≡ refusedText 1 ++ drop (length (refusedText 1)) before → Reported (reportOf a) r a before after
@@ -25,43 +26,34 @@ unfolding reportOf
 too-long a before after r u e f = rw (lt-ltb _ _ u) (record { count = e; buffer = f; opened = refl })
 
 -- an opening that gave this
-module _ (a input left : List ℕ) (n count : ℕ) (p : packed.Handle) (u : length a ≤ maxInput)
-    (o : record { number = n; mended = count; arena = input; handle = p; work = left }
-    ≡ packedOpening (openOf aloneNear a workBuffer)) where
+module _ (a input left : List ℕ) (o : Opened) (u : length a ≤ maxInput)
+    (gives : OpenGives o input left (lent .table) (openOf aloneNear a lent)) where
   abbrev given : Opening
-  given = openOf aloneNear a workBuffer
-
-  number : n ≡ given .number
-  number = ap (λ (x : PackedOpening). x .number) o
+  given = openOf aloneNear a lent
 
   reported : (text before after : List ℕ) (r : ℕ) → text ≡ textOf given → r ≡ length text → after ≡ text ++ drop (length text) before
       → Reported (reportOf a) r input before after
   unfolding reportOf
-  reported text before after r t e f =
-      rw (le-ltb _ _ u, ← t) (record { count = e; buffer = f; opened = ap (λ (x : PackedOpening). x .arena) o })
+  reported text before after r t e f = rw (le-ltb _ _ u, ← t) (record { count = e; buffer = f; opened = gives .arena })
 
-  pub refused-report : eqb n 0 ≡ false → (m : ℕ) → m ≡ n → (before after : List ℕ) (r : ℕ) → r ≡ length (refusedText m)
-      → after ≡ refusedText m ++ drop (length (refusedText m)) before → Reported (reportOf a) r input before after
-  refused-report t m d before after r e f = reported (refusedText m) before after r (rw (← number, t, d)) e f
+  pub refused-report : o .number ≢ 0 → (before after : List ℕ) (r : ℕ) → r ≡ length (refusedText (o .number))
+      → after ≡ refusedText (o .number) ++ drop (length (refusedText (o .number))) before → Reported (reportOf a) r input before after
+  refused-report n before after r e f = reported (refusedText (o .number)) before after r (rw (← gives .number, ne-eqb (o .number) 0 n)) e f
 
-  module _ (t : eqb n 0 ≡ true) where
+  module _ (e : o .number ≡ 0) where
     zero : given .number ≡ 0
-    zero = sym number ∙ eqb-true n 0 t
+    zero = sym (gives .number) ∙ e
 
-    -- the array stands for the handle
-    handle : unpacked p ≡ given .handle
-    handle = ap (λ (x : PackedOpening). unpacked (x .handle)) o ∙ packing-claim .opened 16 a workBuffer zero
+    -- the handle that was given, with the table that it fills
+    handle : with (o .handle) (filledBy (o .handle) input (lent .table)) ≡ given .handle
+    handle = ap₂ {C = Handle} (λ (h : bare.Handle) (t : List Lane). with h t) (gives .handle) (gives .table)
 
-    pub opened-report : (before after : List ℕ) (r : ℕ) → r ≡ length (openedText (unpacked p) count)
-        → after ≡ openedText (unpacked p) count ++ drop (length (openedText (unpacked p) count)) before
-        → Reported (reportOf a) r input before after
-    opened-report before after r e f =
-        reported (openedText (unpacked p) count) before after r
-        (rw (zero, ← handle, ← ap (λ (x : PackedOpening). x .mended) o)) e f
+    pub opened-report : (before after : List ℕ) (r : ℕ) → let text = openedText (opened (o .handle) input) (o .mended) in
+        r ≡ length text → after ≡ text ++ drop (length text) before → Reported (reportOf a) r input before after
+    opened-report before after r =
+        reported (openedText (opened (o .handle) input) (o .mended)) before after r
+        (rw (zero, ← handle, ← gives .mended) (sym (opened-any (o .handle) input (lent .table) (o .mended))))
 
-    -- an opened arena has at most 16 lanes
-    pub few-lanes : p .figures .lanes ≤ maxLanes
-    few-lanes =
-        let f = ap (λ (h : Handle). h .figures) handle ∙ opened-figures aloneNear a workBuffer zero in
-        let k = open-zero aloneNear a (length workBuffer) (unfold openOf in zero) in
-        rw f (described-figures aloneNear a (k .0 .info) .few-lanes)
+    -- there is a line for each lane
+    pub few-lines : o .handle .figures .lanes ≤ mostLanes
+    few-lines = rw (gives .handle) (few-lanes .few a (omega (arith, u)) zero)

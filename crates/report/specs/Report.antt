@@ -5,8 +5,10 @@ use mathlib.Core.List.{List, _++_}
 use Prim.Native.Nat.{ℕ}
 use lib.Dec.{eqb, ltb}
 use lib.ListN.{length, drop, replicate}
+use Rattle.layout.specs.Figures.{maxLanes}
 use Rattle.layout.specs.Told.{aloneNear}
-use Rattle.machine.specs.calls.Opening.{Opening, openOf}
+use Rattle.machine.specs.state.Lane.{noLane}
+use Rattle.machine.specs.calls.Opening.{Room, Opening, openOf}
 use Rattle.text.specs.Text.{refusedText, openedText}
 
 -- a report's text, and the input as opening leaves it
@@ -22,6 +24,10 @@ textOf o = cond (eqb (o .number) 0) (openedText (o .handle) (o .mended)) (refuse
 abbrev pub workBuffer : List ℕ
 workBuffer = replicate 128 0
 
+-- what it is opened with: that buffer, and a table with a record for each lane that there may be
+abbrev pub lent : Room
+lent = record { work = workBuffer; table = replicate maxLanes noLane }
+
 -- the longest input that is opened, in bytes
 abbrev pub maxInput : ℕ
 maxInput = 65536
@@ -30,7 +36,7 @@ maxInput = 65536
 unfoldable pub reportOf : List ℕ → Report
 reportOf a =
     cond (ltb maxInput (length a)) (record { text = refusedText 1; input = a })
-    (record { text = textOf (openOf aloneNear a workBuffer); input = (openOf aloneNear a workBuffer) .arena })
+    (record { text = textOf (openOf aloneNear a lent); input = (openOf aloneNear a lent) .arena })
 
 -- what a report leaves: so many bytes of text at the start of the buffer, the rest of it unchanged, and the input
 pub record Reported (r : Report) (bytes : ℕ) (input before after : List ℕ) : Type 0 where

@@ -13,10 +13,10 @@ fn room() -> [u8; 65537]
 }
 
 // Room for the text.
-fn page() -> [u8; 1024]
-    ensures { λ r. ⌜ 1024 ≡ length r ⌝ }
+fn page() -> [u8; 4096]
+    ensures { λ r. ⌜ 4096 ≡ length r ⌝ }
 {
-    [0u8; 1024]
+    [0u8; 4096]
 }
 
 fn main() {

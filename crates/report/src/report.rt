@@ -9,8 +9,11 @@ ghost use Rattle.report.specs.Report.{reportOf, Reported};
 // The longest input that is opened.
 const LIMIT: usize = 65536;
 
+// The records of a table that has one for each lane that there may be; opening goes by their number alone.
+const RECORDS: usize = 256;
+
 // Opens an arena in memory and writes the report to the start of out: how many bytes of it are the text.
-pub fn report(input: &mut [u8], out: &mut [u8; 1024]) -> usize
+pub fn report(input: &mut [u8], out: &mut [u8; 4096]) -> usize
     ensures { λ r. ⌜ Reported (reportOf (now (input .entry))) r (now (input .exit)) (now (out .entry)) (now (out .exit)) ⌝ }
     ensures { λ r. ⌜ Counts r (now (out .exit)) ⌝ }
 {
@@ -18,10 +21,9 @@ pub fn report(input: &mut [u8], out: &mut [u8; 1024]) -> usize
         return put_refused(out, 1);
     }
     let mut work = [0u8; 128];
-    let opened = open(input, &mut work, NEAR);
-    let answer = opened.answer;
-    if !answer.is_done() {
-        return put_refused(out, answer.number());
+    let opened = open(input, &mut work, NEAR, RECORDS);
+    if opened.number != 0 {
+        return put_refused(out, opened.number);
     }
-    put_opened(out, opened.handle, opened.mended)
+    put_opened(out, &input[..], opened.handle, opened.mended)
 }

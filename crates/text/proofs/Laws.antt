@@ -1,5 +1,5 @@
 -- Laws of a text put into a buffer: two pieces that follow one another are one piece, so each function's text is the chain of its pieces.
-use mathlib.Core.Path.{_≡_, refl, sym, ap, _∙_}
+use mathlib.Core.Path.{_≡_, refl, sym, ap, ap₂, _∙_}
 use mathlib.Core.List.{List, [], _∷_, _++_, append-assoc}
 use Prim.Native.Nat.{ℕ, zero, suc, _+_, _-_, _/_, _%_, _≤_, _<_}
 use native.Mathlib.Nat.{add-zero, zero-add, le-of-lt}
@@ -8,8 +8,14 @@ use native.Mathlib.Omega.{arith}
 use lib.ListN.{length, getD, set, take, drop, length-append}
 use lib.Seq.{sets, sets-eq, length-sets, take-at, take-suc, take-length, length-take-le}
 use borrow.Author.Tests.{lt-ltb, le-ltb}
-use Rattle.machine.specs.state.Handle.{Handle, laneAt}
+use Rattle.layout.specs.Place.{layoutOf}
+use Rattle.machine.specs.state.Handle.{Handle, with, laneAt}
+use Rattle.machine.specs.calls.Opening.{foundLane}
+use Rattle.machine.specs.declared.handle.Handle as bare
 use Rattle.machine.specs.declared.lane.Lane.{Lane}
+use Rattle.machine.proofs.invariant.Lanes.{filled-lane}
+use Rattle.lanes.specs.Filled.{filledBy}
+use Rattle.text.specs.Opened.{opened}
 use Rattle.text.specs.Put.{Put}
 use Rattle.text.specs.Text as texts
 use Rattle.text.specs.Text.{digits, decimal, newline, refusedText, headText, laneText, lanesText, openedText}
@@ -98,7 +104,7 @@ lane-pieces l r = three texts.lane (decimal l) texts.free (decimal (r .block .0)
     three a x b y c z n = simp append-assoc
 
 pub opened-pieces : (h : Handle) (n : ℕ)
-    → headText (h .figures .size) (h .figures .sectors) (h .figures .lanes) n ++ lanesText (h .lanes) (h .figures .lanes)
+    → headText (h .figures .size) (h .figures .sectors) (h .figures .lanes) n ++ lanesText (h .table) (h .figures .lanes)
     ++ (texts.opened ++ newline)
     ≡ openedText h n
 unfolding openedText
@@ -113,6 +119,25 @@ pub lanes-more : {l m n : List ℕ} {at next last : ℕ} (rs : List Lane) (k : �
     → Put m n next last (laneText k (laneAt rs k)) → Put l n at last (lanesText rs (k + 1))
 unfolding lanesText
 lanes-more rs k p q = rw (add-one k) (put-append p q)
+
+-- a lane's record in the table of an opened arena's handle is as the flog has it
+pub found-at : (h : bare.Handle) (a : List ℕ) (table : List Lane) (l : ℕ) → l < h .figures .lanes
+    → laneAt (filledBy h a table) l ≡ foundLane (layoutOf (h .distance) (h .figures)) a l
+unfolding layoutOf
+found-at h a table l u = filled-lane (layoutOf (h .distance) (h .figures)) a table l u
+
+-- the text reads the lanes' records alone
+lanes-same : (rs rs′ : List Lane) (n : ℕ) → ((l : ℕ) → l < n → laneAt rs l ≡ laneAt rs′ l) → lanesText rs n ≡ lanesText rs′ n
+unfolding lanesText
+lanes-same rs rs′ zero e = refl
+lanes-same rs rs′ (suc n) e = ap₂ {C = List ℕ} (λ x r. x ++ laneText n r) (lanes-same rs rs′ n (λ l u. e l (omega arith))) (e n (omega arith))
+
+-- so it is the same for every table that the opening filled
+pub opened-any : (h : bare.Handle) (a : List ℕ) (table : List Lane) (n : ℕ) → openedText (with h (filledBy h a table)) n ≡ openedText (opened h a) n
+unfolding openedText
+opened-any h a table n =
+    rw (lanes-same (filledBy h a table) (opened h a .table) (h .figures .lanes)
+    (λ l u. found-at h a table l u ∙ sym (found-at h a [] l u)))
 
 -- a text from place 0 on
 pub whole : {l m text : List ℕ} {size : ℕ} → Put l m 0 size text → size ≤ length l

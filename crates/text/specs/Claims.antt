@@ -68,5 +68,5 @@ freshReport =
 abbrev pub ReportTextClaim : Type 0
 ReportTextClaim =
     (h : Handle) → h .figures .size ≡ 512 → h .figures .sectors ≡ 60 → h .figures .lanes ≡ 4
-    → ((l : ℕ) → l < 4 → ((laneAt (h .lanes) l) .block .0 ≡ 60 + l) × ((laneAt (h .lanes) l) .sequence .0 ≡ 2))
+    → ((l : ℕ) → l < 4 → ((laneAt (h .table) l) .block .0 ≡ 60 + l) × ((laneAt (h .table) l) .sequence .0 ≡ 2))
     → openedText h 0 ≡ freshReport

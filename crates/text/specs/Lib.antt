@@ -1,4 +1,5 @@
 pub mod Claims
+pub mod Opened
 pub mod Put
 pub mod Replay
 pub mod Text

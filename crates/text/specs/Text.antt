@@ -72,4 +72,4 @@ lanesText rs (suc l) = lanesText rs l ++ laneText l (laneAt rs l)
 unfoldable pub openedText : Handle → ℕ → List ℕ
 openedText h mended =
     headText (h .figures .size) (h .figures .sectors) (h .figures .lanes) mended
-    ++ (lanesText (h .lanes) (h .figures .lanes) ++ (opened ++ newline))
+    ++ (lanesText (h .table) (h .figures .lanes) ++ (opened ++ newline))

@@ -1,13 +1,15 @@
 // The text of a report, put into a lent buffer piece by piece. Each piece gives the place after it.
+use format::numbers::LaneNo;
+use lanes::found_lane;
 use machine::handle::Handle;
 use machine::lane::Lane;
 ghost use mathlib.Core.Path.{_≡_};
 ghost use mathlib.Core.List.{_++_};
 ghost use Prim.Native.Nat.{_+_, _≤_};
 ghost use lib.ListN.{length, drop};
-ghost use Rattle.layout.specs.Figures.{maxLanes};
-ghost use Rattle.machine.specs.state.Packed.{unpacked};
+ghost use Rattle.lanes.specs.Filled.{LanesFit};
 ghost use Rattle.text.specs.Text.{digits, decimal, newline, refusedText, headText, laneText, lanesText, openedText};
+ghost use Rattle.text.specs.Opened.{mostLanes, opened};
 ghost use Rattle.text.specs.Put.{Put};
 
 pub mod claims;
@@ -84,16 +86,17 @@ fn put_lane(out: &mut [u8], at: usize, l: u32, lane: Lane) -> usize
     put_line(out, b, b" next ", lane.sequence.0)
 }
 
-// The lines of the lanes.
-fn put_lanes(out: &mut [u8], at: usize, h: Handle) -> usize
-    requires { ⌜ (h .figures .lanes ≤ maxLanes) × (at + 768 ≤ length (now out)) ⌝ }
-    ensures { λ r. ⌜ Put (now (out .entry)) (now (out .exit)) at r (lanesText (unpacked h .lanes) (h .figures .lanes)) × (r ≤ at + 768) ⌝ }
+// The lines of the lanes, each from the lane's record as the flog has it.
+fn put_lanes(out: &mut [u8], at: usize, arena: &[u8], h: Handle) -> usize
+    requires { ⌜ LanesFit h (now arena) × (h .figures .lanes ≤ mostLanes) × (at + 2304 ≤ length (now out)) ⌝ }
+    ensures { λ r. ⌜ Put (now (out .entry)) (now (out .exit)) at r (lanesText (opened h (now (arena .entry)) .table) (h .figures .lanes))
+        × (r ≤ at + 2304) ⌝ }
 {
     let n = h.figures.lanes;
     let mut l: u32 = 0;
     let mut next = at;
     while l < n {
-        let lane = h.lanes[l as usize];
+        let lane = found_lane(arena, h.figures, h.distance, LaneNo(l));
         next = put_lane(out, next, l, lane);
         l += 1;
     }
@@ -101,21 +104,21 @@ fn put_lanes(out: &mut [u8], at: usize, h: Handle) -> usize
 }
 
 // The report on a refused opening.
-pub fn put_refused(out: &mut [u8; 1024], n: u32) -> usize
+pub fn put_refused(out: &mut [u8; 4096], n: u32) -> usize
     ensures { λ r. ⌜ (r ≡ length (refusedText n))
         × (now (out .exit) ≡ refusedText n ++ drop (length (refusedText n)) (now (out .entry))) ⌝ }
 {
     put_line(out, 0, b"refused ", n)
 }
 
-// The report on an opened arena.
-pub fn put_opened(out: &mut [u8; 1024], h: Handle, mended: u32) -> usize
-    requires { ⌜ h .figures .lanes ≤ maxLanes ⌝ }
-    ensures { λ r. ⌜ (r ≡ length (openedText (unpacked h) mended))
-        × (now (out .exit) ≡ openedText (unpacked h) mended ++ drop (length (openedText (unpacked h) mended)) (now (out .entry))) ⌝ }
+// The report on an opened arena, by the handle and the arena that its opening left.
+pub fn put_opened(out: &mut [u8; 4096], arena: &[u8], h: Handle, mended: u32) -> usize
+    requires { ⌜ LanesFit h (now arena) × (h .figures .lanes ≤ mostLanes) ⌝ }
+    ensures { λ r. let text = openedText (opened h (now (arena .entry))) mended in
+        ⌜ (r ≡ length text) × (now (out .exit) ≡ text ++ drop (length text) (now (out .entry))) ⌝ }
 {
     let figures = h.figures;
     let a = put_head(out, figures.size, figures.sectors, figures.lanes, mended);
-    let b = put_lanes(out, a, h);
+    let b = put_lanes(out, a, arena, h);
     put_text(out, b, b"opened\n")
 }

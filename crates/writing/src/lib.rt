@@ -1,4 +1,4 @@
-// Starting a write, one step of it, and a whole write.
+// Starting a write, one step of it, and a whole write, by what was seen of the table: each gives the one record that it changes.
 use format::map::word_fault;
 use format::numbers::LaneNo;
 use format::numbers::SectorNo;
@@ -7,86 +7,71 @@ use lanes::map_word;
 use layout::Figures;
 use machine::answer::Answer;
 use machine::handle::Handle;
-use machine::handle::handle_allowed;
 use machine::lane::Lane;
+use seen::Moved;
+use seen::Seen;
+use seen::judge_table;
 use stores::put_store;
 use stores::put_stores;
 ghost use mathlib.Core.Path.{_≡_};
-ghost use mathlib.Core.Bool.{_&&_};
 ghost use Prim.Native.Nat.{ℕ, _+_, _/_, _≤_, _<_};
 ghost use lib.ListN.{length};
-ghost use lib.Dec.{eqb};
-ghost use Rattle.layout.specs.Figures.{maxLanes};
 ghost use Rattle.layout.specs.Sizes.{maxSize};
 ghost use Rattle.layout.specs.Place.{layoutOf};
 ghost use Rattle.layout.specs.Fit.{Fit};
 ghost use Rattle.machine.specs.state.Answer.{numberOf};
 ghost use Rattle.machine.specs.state.Flog.{mapBlock};
-ghost use Rattle.machine.specs.state.Handle.{laneAt, laidOut, withLane};
-ghost use Rattle.machine.specs.state.Lane.{isBusy, startedLane};
-ghost use Rattle.machine.specs.state.Packed.{unpacked, repacked};
-ghost use Rattle.machine.specs.calls.Judging.{inFlight};
+ghost use Rattle.machine.specs.state.Lane.{startedLane};
 ghost use Rattle.machine.specs.calls.Writing.{laneStored, startOf, stepNumber, stepOf, writeOf};
-ghost use Rattle.writing.specs.Gave.{packedOutcome, stepGave, WriteGives};
+ghost use Rattle.seen.specs.Seen.{Saw, Every, moved};
+ghost use Rattle.writing.specs.Gave.{refusal, WriteGives};
 
-// What a start, a step or a whole write gives: the answer, and the handle as it then is.
-pub struct Stepped {
-    pub answer: Answer,
-    pub handle: Handle,
-}
-
-// Whether a lane's record has a sector in flight.
-fn flies(r: Lane, sector: SectorNo) -> bool
-    ensures { λ t. ⌜ t ≡ (isBusy r && eqb (r .sector .0) (sector .0)) ⌝ }
+// A refusal: nothing is stored in the table.
+fn refuse(answer: Answer, seen: Seen) -> Moved
+    ensures { λ r. ⌜ r ≡ refusal (numberOf answer) seen ⌝ }
 {
-    if !r.is_busy() {
-        return false;
+    let own = seen.own;
+    Moved {
+        number: answer.number(),
+        at: seen.length,
+        own: own,
     }
-    r.sector.0 == sector.0
 }
 
-// Whether a lane has a sector in flight.
-fn in_flight(h: Handle, sector: SectorNo) -> bool
-    requires { ⌜ h .figures .lanes ≤ maxLanes ⌝ }
-    ensures { λ t. ⌜ t ≡ inFlight (unpacked h .lanes) (h .figures .lanes) (sector .0) ⌝ }
+// A lane's record to be stored in its place.
+fn accept(lane: LaneNo, own: Lane) -> Moved
+    ensures { λ r. ⌜ r ≡ record { number = 0; at = lane .0; own = own } ⌝ }
 {
-    let f = h.figures;
-    let n = f.lanes as usize;
-    let mut i: usize = 0;
-    while i < n {
-        let r = h.lanes[i];
-        if flies(r, sector) {
-            return true;
-        }
-        i += 1;
+    Moved {
+        number: 0,
+        at: lane.0 as usize,
+        own: own,
     }
-    false
-}
-
-// The handle with a lane's record replaced.
-fn with_lane(mut h: Handle, lane: LaneNo, r: Lane) -> Handle
-    requires { ⌜ (lane .0 < h .figures .lanes) × (h .figures .lanes ≤ maxLanes) ⌝ }
-    ensures { λ g. ⌜ g ≡ repacked h (withLane (unpacked h) (lane .0) r) ⌝ }
-{
-    let i = lane.0 as usize;
-    h.lanes[i] = r;
-    h
 }
 
 // Judges a write whose buffer fits, or not: the first rule of its order that applies.
-fn judge_write(arena: &[u8], h: Handle, lane: LaneNo, sector: SectorNo, fits: bool) -> Answer
-    ensures { λ r. ⌜ WriteGives (now (arena .entry)) (unpacked h) (lane .0) (sector .0) fits (numberOf r) ⌝ }
+fn judge_write(
+    arena: &[u8],
+    h: Handle,
+    seen: Seen,
+    lane: LaneNo,
+    sector: SectorNo,
+    fits: bool,
+) -> Answer
+    requires { ⌜ Saw h (lane .0) (sector .0) seen ⌝ }
+    ensures { λ r. ⌜ Every h (lane .0) (sector .0) seen
+        (λ k. WriteGives (now (arena .entry)) k (lane .0) (sector .0) fits (numberOf r)) ⌝ }
 {
-    if !handle_allowed(h, arena.len()) {
-        return Answer::BadHandle;
+    let first = judge_table(arena.len(), h, seen);
+    if !first.is_done() {
+        return first;
     }
     let f = h.figures;
     if f.lanes <= lane.0 {
         return Answer::NoSuchLane;
     }
-    let i = lane.0 as usize;
-    let r = h.lanes[i];
-    if r.is_busy() {
+    let own = seen.own;
+    if own.is_busy() {
         return Answer::LaneBusy;
     }
     if f.sectors <= sector.0 {
@@ -95,7 +80,7 @@ fn judge_write(arena: &[u8], h: Handle, lane: LaneNo, sector: SectorNo, fits: bo
     if !fits {
         return Answer::WrongBuffer;
     }
-    if in_flight(h, sector) {
+    if seen.flying {
         return Answer::SectorBusy;
     }
     let fault = word_fault(f.blocks, map_word(arena, f, sector));
@@ -105,43 +90,33 @@ fn judge_write(arena: &[u8], h: Handle, lane: LaneNo, sector: SectorNo, fits: bo
     if fault == 18 {
         return Answer::Sloppy;
     }
-    Answer::Done
+    first
 }
 
 // A lane's record with a write to a sector begun.
-fn begun(arena: &[u8], h: Handle, lane: LaneNo, sector: SectorNo) -> Lane
-    requires { ⌜ Fit (h .distance) (h .figures) (length (now arena)) ⌝ }
-    requires { ⌜ (lane .0 < h .figures .lanes) × (sector .0 < h .figures .sectors) ⌝ }
-    ensures { λ r. ⌜ r ≡ startedLane (laneAt (unpacked h .lanes) (lane .0)) (sector .0)
-        (mapBlock (laidOut (unpacked h)) (now (arena .entry)) (sector .0)) ⌝ }
+fn begun(arena: &[u8], h: Handle, own: Lane, sector: SectorNo) -> Lane
+    requires { ⌜ Fit (h .distance) (h .figures) (length (now arena)) × (sector .0 < h .figures .sectors) ⌝ }
+    ensures { λ r. ⌜ r ≡ startedLane own (sector .0) (mapBlock (layoutOf (h .distance) (h .figures)) (now (arena .entry)) (sector .0)) ⌝ }
 {
-    let i = lane.0 as usize;
-    let r = h.lanes[i];
     let old = map_block(arena, h.figures, sector);
-    r.start(sector, old)
+    own.start(sector, old)
 }
 
-// Starts a write to a sector on an idle lane; nothing is stored. It is judged as a write whose buffer fits.
-pub fn start(arena: &[u8], h: Handle, lane: LaneNo, sector: SectorNo) -> Stepped
-    ensures { λ r. ⌜ stepGave r (now (arena .entry)) ≡ packedOutcome h (startOf (now (arena .entry)) (unpacked h) (lane .0) (sector .0)) ⌝ }
+// Starts a write to a sector on an idle lane; nothing is stored in the arena. It is judged as a write whose buffer fits.
+pub fn start_seen(arena: &[u8], h: Handle, seen: Seen, lane: LaneNo, sector: SectorNo) -> Moved
+    requires { ⌜ Saw h (lane .0) (sector .0) seen ⌝ }
+    ensures { λ r. ⌜ Every h (lane .0) (sector .0) seen
+        (λ k. moved k r (now (arena .entry)) ≡ startOf (now (arena .entry)) k (lane .0) (sector .0)) ⌝ }
 {
-    let answer = judge_write(arena, h, lane, sector, true);
+    let answer = judge_write(arena, h, seen, lane, sector, true);
     if !answer.is_done() {
-        return Stepped {
-            answer: answer,
-            handle: h,
-        };
+        return refuse(answer, seen);
     }
-    let r = begun(arena, h, lane, sector);
-    let next = with_lane(h, lane, r);
-    Stepped {
-        answer: answer,
-        handle: next,
-    }
+    accept(lane, begun(arena, h, seen.own, sector))
 }
 
 // The record after one more store.
-fn moved(f: Figures, r: Lane) -> Lane
+fn after_store(f: Figures, r: Lane) -> Lane
     requires { ⌜ (r .half < 2) × (r .made < f .size / 4 + 5) × (f .size ≤ maxSize) ⌝ }
     ensures { λ t. ⌜ ((d : ℕ) → t ≡ laneStored (layoutOf d f) r) ⌝ }
 {
@@ -152,70 +127,63 @@ fn moved(f: Figures, r: Lane) -> Lane
 }
 
 // Judges a step: the first rule of its order that applies.
-fn judge_step(arena: &[u8], h: Handle, lane: LaneNo, buffer: &[u8]) -> Answer
-    ensures { λ r. ⌜ numberOf r ≡ stepNumber (now (arena .entry)) (unpacked h) (lane .0) (now (buffer .entry)) ⌝ }
+fn judge_step(arena: &[u8], h: Handle, seen: Seen, lane: LaneNo, buffer: &[u8]) -> Answer
+    requires { ⌜ Saw h (lane .0) 0 seen ⌝ }
+    ensures { λ r. ⌜ Every h (lane .0) 0 seen (λ k. numberOf r ≡ stepNumber (now (arena .entry)) k (lane .0) (now (buffer .entry))) ⌝ }
 {
-    if !handle_allowed(h, arena.len()) {
-        return Answer::BadHandle;
+    let first = judge_table(arena.len(), h, seen);
+    if !first.is_done() {
+        return first;
     }
     let f = h.figures;
     if f.lanes <= lane.0 {
         return Answer::NoSuchLane;
     }
-    let i = lane.0 as usize;
-    let r = h.lanes[i];
-    if !r.is_busy() {
+    let own = seen.own;
+    if !own.is_busy() {
         return Answer::LaneIdle;
     }
     if buffer.len() != f.size as usize {
         return Answer::WrongBuffer;
     }
-    Answer::Done
+    first
 }
 
 // Makes the next store of a lane's write.
-pub fn step(arena: &mut [u8], h: Handle, lane: LaneNo, buffer: &[u8]) -> Stepped
-    ensures { λ r. ⌜ stepGave r (now (arena .exit))
-        ≡ packedOutcome h (stepOf (now (arena .entry)) (unpacked h) (lane .0) (now (buffer .entry))) ⌝ }
+pub fn step_seen(arena: &mut [u8], h: Handle, seen: Seen, lane: LaneNo, buffer: &[u8]) -> Moved
+    requires { ⌜ Saw h (lane .0) 0 seen ⌝ }
+    ensures { λ r. ⌜ Every h (lane .0) 0 seen
+        (λ k. moved k r (now (arena .exit)) ≡ stepOf (now (arena .entry)) k (lane .0) (now (buffer .entry))) ⌝ }
 {
-    let answer = judge_step(arena, h, lane, buffer);
+    let answer = judge_step(&arena[..], h, seen, lane, buffer);
     if !answer.is_done() {
-        return Stepped {
-            answer: answer,
-            handle: h,
-        };
+        return refuse(answer, seen);
     }
     let f = h.figures;
-    let i = lane.0 as usize;
-    let r = h.lanes[i];
+    let r = seen.own;
     put_store(arena, f, h.distance, lane, r, buffer, r.made);
-    let after = moved(f, r);
-    let next = with_lane(h, lane, after);
-    Stepped {
-        answer: answer,
-        handle: next,
-    }
+    accept(lane, after_store(f, r))
 }
 
 // Makes a whole write: start and all steps in one call, refused before any store.
-pub fn write(arena: &mut [u8], h: Handle, lane: LaneNo, sector: SectorNo, buffer: &[u8]) -> Stepped
-    ensures { λ r. ⌜ stepGave r (now (arena .exit))
-        ≡ packedOutcome h (writeOf (now (arena .entry)) (unpacked h) (lane .0) (sector .0) (now (buffer .entry))) ⌝ }
+pub fn write_seen(
+    arena: &mut [u8],
+    h: Handle,
+    seen: Seen,
+    lane: LaneNo,
+    sector: SectorNo,
+    buffer: &[u8],
+) -> Moved
+    requires { ⌜ Saw h (lane .0) (sector .0) seen ⌝ }
+    ensures { λ r. ⌜ Every h (lane .0) (sector .0) seen
+        (λ k. moved k r (now (arena .exit)) ≡ writeOf (now (arena .entry)) k (lane .0) (sector .0) (now (buffer .entry))) ⌝ }
 {
     let fits = buffer.len() == h.figures.size as usize;
-    let answer = judge_write(arena, h, lane, sector, fits);
+    let answer = judge_write(&arena[..], h, seen, lane, sector, fits);
     if !answer.is_done() {
-        return Stepped {
-            answer: answer,
-            handle: h,
-        };
+        return refuse(answer, seen);
     }
-    let r = begun(arena, h, lane, sector);
+    let r = begun(&arena[..], h, seen.own, sector);
     put_stores(arena, h.figures, h.distance, lane, r, buffer);
-    let done = r.finished();
-    let next = with_lane(h, lane, done);
-    Stepped {
-        answer: answer,
-        handle: next,
-    }
+    accept(lane, r.finished())
 }

@@ -6,9 +6,9 @@ this rests on the compiler; it might as well split a word or join neighbouring w
 1. every instruction that store_order saw store such a word, found again in the disassembly of the archive, is `mov DWORD PTR [..],r32`
    (or a 32-bit constant) and does not go to the stack;
 2. btt_step, btt_write and an opening each have such an instruction, in the function itself or in one that it calls;
-3. in each function that holds one, every other instruction that stores elsewhere than to the stack either ran while store_order had the
-   arena's pages locked, and so was seen not to store to the arena (or to store data only), or is a 32-bit move itself. So none that might
-   store flog or map words in another width is left on a path that was not tried;
+3. in each function that holds one, every other instruction that stores elsewhere than to the stack, as to the table of the lanes, either
+   ran while store_order had the arena's pages locked, and so was seen not to store to the arena (or to store data only), or is a 32-bit
+   move itself. So none that might store flog or map words in another width is left on a path that was not tried;
 4. the archive exports just the functions that the header declares, and needs only memcpy, memmove and memset.
 
 Which registers point into the arena cannot be read off optimised code in general, so 1 and 3 take it from the run. The order of the stores

@@ -13,9 +13,10 @@ static void test_make(void)
     } rows[] = {
         {512, 60, 4, 49152, 16, 16, 0}, {512, 1, 1, 20480, 16, 16, 0}, {4096, 1, 1, 24576, 16, 16, 0}, {512, 16, 16, 32768, 16, 16, 0},
         {513, 60, 4, 49152, 16, 16, 3}, {0, 60, 4, 49152, 16, 16, 3}, {512, 3, 4, 24576, 16, 16, 3}, {512, 60, 0, 45056, 16, 16, 3},
-        {512, 60, 17, 57344, 16, 16, 3}, {512, 0, 0, 20480, 16, 16, 3}, {1024, 60, 4, 0, 0, 0, 3},
+        {512, 0, 0, 20480, 16, 16, 3}, {1024, 60, 4, 0, 0, 0, 3}, {512, 256, 257, 290816, 16, 16, 3}, {512, 300, 257, 319488, 16, 16, 3},
         {512, 60, 4, 49151, 16, 16, 1}, {512, 60, 4, 45056, 16, 16, 1}, {512, 60, 4, 53248, 16, 16, 1}, {512, 60, 4, 0, 16, 16, 1},
-        {512, 0xFFFFFFFF, 16, 49152, 16, 16, 1}, {4096, 60, 4, 49152, 16, 16, 1}, {512, 60, 4, 45056, 15, 16, 1},
+        {512, 256, 256, 290816, 16, 16, 0}, {512, 0xFFFFFFFF, 256, 49152, 16, 16, 1}, {4096, 60, 4, 49152, 16, 16, 1},
+        {512, 60, 4, 45056, 15, 16, 1},
         {512, 60, 4, 49152, 15, 16, 10}, {512, 60, 4, 49152, 16, 17, 10}, {512, 60, 4, 49152, 0, 16, 10}, {512, 60, 4, 49152, 16, 0, 10},
         /* the other sizes, the last length of each being that of blocks which are just as long as a sector */
         {520, 60, 4, 53248, 16, 16, 0}, {520, 1, 1, 20480, 16, 16, 0}, {520, 100, 4, 77824, 16, 16, 0}, {520, 100, 4, 73728, 16, 16, 1},
@@ -27,7 +28,8 @@ static void test_make(void)
 
     fresh_case();
     for (size_t i = 0; i < COUNT(rows); i++) {
-        size_t data_end = 4096 + internal_size(rows[i].size) * (rows[i].sectors + (size_t)rows[i].lanes), flog = rows[i].length - 8192;
+        size_t data_end = 4096 + internal_size(rows[i].size) * (rows[i].sectors + (size_t)rows[i].lanes);
+        size_t flog = rows[i].length - 4096 - units(64 * (size_t)rows[i].lanes);
 
         lend(ARENA, rows[i].length);
         lend(FIRST_ID, rows[i].first);
@@ -73,30 +75,6 @@ static void test_info_block(void)
         lend(ARENA, lengths[i]);
         CALL(0, ONLY(OFFSET) | ONLY(LENGTH), info_block());
         CHECK(get_bytes(lent[OFFSET].at, 8) == 0 && get_bytes(lent[LENGTH].at, 8) == 0);
-    }
-}
-
-/* Opening and cut openings must all refuse the arena as it stands: handle and count become 0, and the work buffer ends as it must. */
-static void refused_opening(uint32_t answer)
-{
-    static const uint32_t cuts[] = {0, 1, 16, 0xFFFFFFFF};
-    int untouched = answer < 6 || answer == 16;
-    size_t cleared = untouched ? 0 : BLOCKS;
-    unsigned work = untouched ? NOTHING : ONLY(WORK);
-
-    for (size_t i = 0; i <= COUNT(cuts); i++) {
-        pattern(lent[WORK].at, lent[WORK].length, 5);
-        pattern(lent[MENDED].at, 4, 6);
-        pattern(lent[HANDLE].at, sizeof *handle, 7);
-        if (i < COUNT(cuts)) {
-            CALL(answer, ONLY(MENDED) | work, cut_open(cuts[i]));
-        } else {
-            CALL(answer, OPENED & ~(ONLY(WORK) & ~work), open_arena());
-            CHECK(all_bytes(lent[HANDLE].at, sizeof *handle, 0));
-        }
-        CHECK(mended() == 0);
-        CHECK(all_bytes(lent[WORK].at, cleared, 0));
-        CHECK(memcmp(lent[WORK].at + cleared, was(WORK) + cleared, lent[WORK].length - cleared) == 0);
     }
 }
 
@@ -148,8 +126,8 @@ static const struct {
     struct patch patch[2];
 } damaged[] = {
     {3, {{52, 2, 1}}}, {3, {{54, 2, 1}}}, {3, {{56, 4, 1024}}}, {3, {{56, 4, 4096}}}, {3, {{60, 4, 3}}}, {3, {{60, 4, 61}}}, {3, {{64, 4, 4096}}},
-    {3, {{68, 4, 63}}}, {3, {{72, 4, 0}}}, {3, {{72, 4, 17}}}, {3, {{76, 4, 512}}}, {3, {{80, 8, 49152}}}, {3, {{88, 8, 0}}}, {3, {{88, 8, 4100}}},
-    {3, {{88, 8, 8192}}}, {3, {{88, 8, 0xFFFFFFFFFFFFF000}}}, {3, {{96, 8, 32768}}}, {3, {{96, 8, 40960}}}, {3, {{104, 8, 36864}}},
+    {3, {{68, 4, 63}}}, {3, {{72, 4, 0}}}, {3, {{72, 4, 5}}}, {3, {{72, 4, 257}}}, {3, {{76, 4, 512}}}, {3, {{80, 8, 49152}}},
+    {3, {{88, 8, 0}}}, {3, {{88, 8, 4100}}}, {3, {{88, 8, 8192}}}, {3, {{88, 8, 0xFFFFFFFFFFFFF000}}}, {3, {{96, 8, 32768}}}, {3, {{96, 8, 40960}}}, {3, {{104, 8, 36864}}},
     {3, {{104, 8, 45056}}}, {3, {{112, 8, 40960}}}, {3, {{112, 8, 49152}}}, {3, {{48, 4, 1}, {52, 2, 1}}},
     {4, {{48, 4, 1}}}, {4, {{48, 4, 0x80000000}, {FLOG + 12, 4, 0}}},
     {6, {{FLOG + 12, 4, 0}}}, {6, {{FLOG + 12, 4, 4}}}, {6, {{FLOG + 28, 4, 1}}}, {6, {{FLOG + 28, 4, 4}}}, {6, {{FLOG + 192, 4, SECTORS}}},
@@ -289,7 +267,7 @@ static void test_sloppy_and_pending(void)
     static const struct patch rows[] = {{MAP + 28, 4, 7}, {MAP + 28, 4, 60}, {MAP + 236, 4, 1}, {FLOG + 32, 1, 1}, {FLOG + 192 + 63, 1, 1}};
 
     fresh_case();
-    CALL(0, ONLY(HANDLE), start(2, 7));
+    CALL(0, ONLY(TABLE), start(2, 7));
     for (int k = 0; k < LAST; k++) {
         CALL(0, STEPPED, step(2));
     }
@@ -312,20 +290,24 @@ static void test_other_layout(void)
     static const uint32_t rows[][2] = {{7, 129}, {0, 131}};
 
     for (size_t i = 0; i < COUNT(rows); i++) {
+        struct btt_lane records[LANES];
         struct btt_handle opened;
 
         fresh_case();
         opened = *handle;
+        memcpy(records, table, sizeof records);
         opened.layout = layout = other_layout();
         CALL(0, OPENED, open_arena());
-        CHECK(memcmp(handle, &opened, sizeof opened) == 0);
-        layout = handle->layout = other_layout();
-        CALL(0, ONLY(HANDLE), start(3, rows[i][0]));
-        opened = *handle;
+        CHECK(memcmp(handle, &opened, sizeof opened) == 0 && memcmp(table, records, sizeof records) == 0);
+        opened.layout = layout = other_layout();
+        *handle = opened;
+        CALL(0, ONLY(TABLE), start(3, rows[i][0]));
+        memcpy(records, table, sizeof records);
         for (uint32_t n = 1; n <= LAST + 1; n++) {
             *handle = opened;
+            memcpy(table, records, sizeof records);
             CALL(0, STEPPED, step(3));
-            opened = *handle;
+            memcpy(records, table, sizeof records);
             layout = other_layout();
             if (n >= rows[i][1]) {
                 refused_opening(18);
@@ -340,8 +322,6 @@ static void test_other_layout(void)
 
 static void test_open_gives(void)
 {
-    static const struct btt_lane none;
-
     fresh_case();
     arena[0] = 'b';
     pattern(lent[HANDLE].at, sizeof *handle, 8);
@@ -351,10 +331,10 @@ static void test_open_gives(void)
     CHECK(handle->size == SIZE && handle->sectors == SECTORS && handle->internal == SIZE && handle->blocks == BLOCKS && handle->lanes == LANES);
     CHECK(handle->layout == layout);
     CHECK(all_bytes(lent[WORK].at, BLOCKS, 0) && lent[WORK].at[BLOCKS] == was(WORK)[BLOCKS]);
-    for (uint32_t i = 0; i < BTT_MAX_LANES; i++) {
+    for (uint32_t i = 0; i < LANES; i++) {
         struct btt_lane lane = {.block = SECTORS + i, .half = 1, .sequence = 2};
 
-        CHECK(memcmp(&handle->lane[i], i < LANES ? &lane : &none, sizeof lane) == 0);
+        CHECK(memcmp(&table[i], &lane, sizeof lane) == 0);
     }
 }
 
@@ -368,7 +348,7 @@ static void test_cut_open(void)
 
         fresh_case();
         for (uint32_t lane = 0; lane < 4; lane += 2) {
-            CALL(0, ONLY(HANDLE), start(lane, 9 - lane));
+            CALL(0, ONLY(TABLE), start(lane, 9 - lane));
             for (int k = 0; k < LAST; k++) {
                 CALL(0, STEPPED, step(lane));
             }
@@ -378,7 +358,7 @@ static void test_cut_open(void)
         CHECK(get32(map_word(9)) == (cuts[i] > 0 ? 0xC000003C : 0) && get32(map_word(7)) == (cuts[i] > 1 ? 0xC000003E : 0));
         put32(lent[ARENA].copy + MAP + 36, get32(map_word(9)));
         put32(lent[ARENA].copy + MAP + 28, get32(map_word(7)));
-        CHECK(kept(&lent[ARENA], 0));
+        CHECK(kept(&lent[ARENA]));
         CALL(0, OPENED | (left > 0 ? ONLY(ARENA) : NOTHING), open_arena());
         CHECK(mended() == left);
         CHECK(get32(map_word(9)) == 0xC000003C && get32(map_word(7)) == 0xC000003E);

@@ -69,26 +69,29 @@ static void ran(size_t records, const uint8_t *numbers, size_t offset)
 /* Makes the calls of the log's records on an arena, and gives their numbers. */
 static void by_calls(uint8_t *image, uint8_t *numbers)
 {
-    static uint8_t room[256], buffer[BTT_MAX_SECTOR];
+    static uint8_t room[512], buffer[BTT_MAX_SECTOR];
+    static struct btt_lane lanes[BTT_MAX_LANES];
     struct btt_handle opened;
     size_t all = lent[ARENA].length;
     uint32_t pending;
 
-    CHECK(btt_open(image, all, room, sizeof room, BTT_LAYOUT_NEAR, &opened, &pending) == 0);
+    CHECK(btt_open(image, all, room, sizeof room, BTT_LAYOUT_NEAR, lanes, COUNT(lanes), &opened, &pending) == 0);
     for (size_t i = 0; i < count; i++) {
         for (uint32_t k = 0; k < opened.size / 4; k++) {
             put32(buffer + 4 * k, (uint32_t)i + k);
         }
-        numbers[i] = (uint8_t)(rows[i].kind == START  ? btt_start(image, all, &opened, rows[i].lane, rows[i].sector)
-                               : rows[i].kind == STEP ? btt_step(image, all, &opened, rows[i].lane, buffer, opened.size)
-                                                      : btt_open(image, all, room, sizeof room, BTT_LAYOUT_NEAR, &opened, &pending));
+        numbers[i] = (uint8_t)(rows[i].kind == START
+                                   ? btt_start(image, all, &opened, lanes, COUNT(lanes), rows[i].lane, rows[i].sector)
+                               : rows[i].kind == STEP
+                                   ? btt_step(image, all, &opened, lanes, COUNT(lanes), rows[i].lane, buffer, opened.size)
+                                   : btt_open(image, all, room, sizeof room, BTT_LAYOUT_NEAR, lanes, COUNT(lanes), &opened, &pending));
     }
 }
 
 /* Replays the log, of which what stands in bytes after its records must end it or not, and compares with the calls. */
 static void replayed(uint32_t answer, size_t offset)
 {
-    static uint8_t image[65536], numbers[BTT_MAX_RECORDS];
+    static uint8_t image[290816], numbers[BTT_MAX_RECORDS];
 
     CHECK(lent[ARENA].length <= sizeof image);
     memcpy(image, arena, lent[ARENA].length);
@@ -111,7 +114,7 @@ static void holds_steps(uint32_t sector, uint32_t first)
 
 static void test_write(void)
 {
-    static const uint32_t shapes[][3] = {{512, 60, 4}, {512, 1, 1}, {520, 60, 4}, {528, 1, 1}, {4096, 3, 2}, {4104, 3, 2}};
+    static const uint32_t shapes[][3] = {{512, 60, 4}, {512, 1, 1}, {512, 256, 256}, {520, 60, 4}, {528, 1, 1}, {4096, 3, 2}, {4104, 3, 2}};
 
     for (size_t i = 0; i < COUNT(shapes); i++) {
         fresh(shapes[i][0], shapes[i][1], shapes[i][2]);
@@ -199,6 +202,27 @@ static void test_refused_records(void)
     put(START, 1, 7, 1);
     replayed(0, 0);
     CHECK(count == sizeof numbers && memcmp(lent[ANSWERS].at, numbers, sizeof numbers) == 0);
+}
+
+/* The replay's own table has a record for each of 256 lanes: the opening of a cut finishes a write on the last of them. */
+static void test_many_lanes(void)
+{
+    static const uint8_t numbers[] = {11, 14, 0, 13, 11};
+
+    fresh(512, 256, 256);
+    empty_log();
+    put(START, 256, 7, 1);
+    put(STEP, 255, 0, 1);
+    put(START, 255, 7, 1);
+    put(START, 254, 7, 1);
+    put(STEP, 256, 0, 1);
+    put(STEP, 255, 0, LAST);
+    put(CUT, 0, 0, 1);
+    put(STEP, 255, 0, 1);
+    replayed(0, 0);
+    CHECK(memcmp(lent[ANSWERS].at, numbers, sizeof numbers) == 0 && lent[ANSWERS].at[count - 1] == 14);
+    CHECK(get32(arena + 266268) == 0xC00001FF);
+    CHECK(all_bytes(lent[ANSWERS].at + sizeof numbers, LAST + 1, 0));
 }
 
 /* A write and a cut; what is put after it begins at a byte that is the answer. */
@@ -337,7 +361,7 @@ static void test_one_layout(void)
     fresh_case();
     write_and_cut();
     replayed(0, 0);
-    CALL(18, OPENED, open_arena());
+    CALL(18, UNOPENED, open_arena());
     fresh_case();
     lend_log();
     CALL(0, STEPPED, write_sector(0, 7));
@@ -347,8 +371,8 @@ static void test_one_layout(void)
 
 int main(void)
 {
-    static const test tests[] = {test_write, test_cuts, test_two_lanes, test_refused_records, test_bad_records, test_short_answers, test_long_logs,
-                                 test_refused_openings, test_one_layout};
+    static const test tests[] = {test_write, test_cuts, test_two_lanes, test_refused_records, test_many_lanes, test_bad_records,
+                                 test_short_answers, test_long_logs, test_refused_openings, test_one_layout};
 
     return run("test_replay", tests, COUNT(tests), 1);
 }

@@ -12,7 +12,7 @@ struct store {
 /* Store k, from 0, of the write that a lane has in flight. */
 static struct store store_of(uint32_t lane, uint32_t k)
 {
-    const struct btt_lane *r = &handle->lane[lane];
+    const struct btt_lane *r = &table[lane];
     uint32_t words = handle->size / 4, part = k - words;
     const uint32_t flog[] = {r->sector, r->old, r->block, r->sequence};
 
@@ -31,14 +31,14 @@ static void step_stores(uint32_t lane, struct store s)
     CALL(0, STEPPED, step(lane));
     CHECK(get32(arena + s.at) == s.value);
     put32(lent[ARENA].copy + (arena - lent[ARENA].pages) + s.at, s.value);
-    CHECK(kept(&lent[ARENA], 0));
+    CHECK(kept(&lent[ARENA]));
 }
 
-/* The step that makes store k changes that one word and, of the handle, the lane's record. */
+/* The step that makes store k changes that one word and, of the table, the lane's record. */
 static void one_step(uint32_t lane, uint32_t k)
 {
     struct store s = store_of(lane, k);
-    struct btt_lane r = handle->lane[lane], after = r;
+    struct btt_lane r = table[lane], after = r;
 
     CALL(0, ONLY(OFFSET), next_store(lane));
     CHECK(get_bytes(lent[OFFSET].at, 8) == s.at);
@@ -48,44 +48,44 @@ static void one_step(uint32_t lane, uint32_t k)
     } else {
         after = (struct btt_lane){.block = r.old, .half = 1 - r.half, .sequence = r.sequence % 3 + 1};
     }
-    memcpy(lent[HANDLE].copy + (lent[HANDLE].at - lent[HANDLE].pages) + record_at(lane), &after, sizeof after);
-    CHECK(kept(&lent[HANDLE], 0));
+    CHECK(memcmp(&table[lane], &after, sizeof after) == 0);
 }
 
 /* The power is cut: a copy of the arena is opened, and must count so many mended lanes and give these bytes for the sector. */
 static void cut_gives(uint32_t sector, uint32_t count, const uint8_t *bytes)
 {
     static uint8_t image[65536], room[256], got[BTT_MAX_SECTOR];
+    struct btt_lane records[16];
     struct btt_handle opened;
     uint32_t pending;
 
     CHECK(lent[ARENA].length <= sizeof image && handle->blocks <= sizeof room);
     memcpy(image, arena, lent[ARENA].length);
-    CHECK(btt_open(image, lent[ARENA].length, room, sizeof room, layout, &opened, &pending) == 0);
+    CHECK(btt_open(image, lent[ARENA].length, room, sizeof room, layout, records, COUNT(records), &opened, &pending) == 0);
     CHECK(pending == count);
-    CHECK(btt_read(image, lent[ARENA].length, &opened, sector, got, handle->size) == 0);
+    CHECK(btt_read(image, lent[ARENA].length, &opened, records, COUNT(records), sector, got, handle->size) == 0);
     CHECK(memcmp(got, bytes, handle->size) == 0 && same_rest(image, arena, handle->size, handle->blocks));
-    CHECK(btt_open(image, lent[ARENA].length, room, sizeof room, layout, &opened, &pending) == 0);
+    CHECK(btt_open(image, lent[ARENA].length, room, sizeof room, layout, records, COUNT(records), &opened, &pending) == 0);
     CHECK(pending == 0);
 }
 
 /* What a read gives now; the sector buffer is left as it was. */
 static void content(uint32_t sector, uint8_t *bytes)
 {
-    CHECK(btt_read(arena, lent[ARENA].length, handle, sector, bytes, handle->size) == 0);
+    CHECK(btt_read(arena, lent[ARENA].length, handle, table, handle->lanes, sector, bytes, handle->size) == 0);
 }
 
 /* A write by steps, with a read and a cut after every store; then the same write whole must end the same. */
 static void write_both_ways(uint32_t lane, uint32_t sector)
 {
     static uint8_t arena_was[65536], arena_then[65536], before[BTT_MAX_SECTOR], now[BTT_MAX_SECTOR];
-    struct btt_handle handle_was = *handle, handle_then;
+    struct btt_lane record_was = table[lane], record_then;
     uint32_t stores = handle->size / 4 + 5;
     const uint8_t *bytes = lent[BUFFER].at;
 
     memcpy(arena_was, arena, lent[ARENA].length);
     content(sector, before);
-    CALL(0, ONLY(HANDLE), start(lane, sector));
+    CALL(0, ONLY(TABLE), start(lane, sector));
     for (uint32_t k = 0; k <= stores; k++) {
         content(sector, now);
         CHECK(memcmp(now, k == stores ? bytes : before, handle->size) == 0);
@@ -95,12 +95,12 @@ static void write_both_ways(uint32_t lane, uint32_t sector)
         }
     }
     CALL(14, NOTHING, step(lane));
-    handle_then = *handle;
+    record_then = table[lane];
     memcpy(arena_then, arena, lent[ARENA].length);
     memcpy(arena, arena_was, lent[ARENA].length);
-    *handle = handle_was;
+    table[lane] = record_was;
     CALL(0, STEPPED, write_sector(lane, sector));
-    CHECK(memcmp(handle, &handle_then, sizeof handle_then) == 0);
+    CHECK(memcmp(&table[lane], &record_then, sizeof record_then) == 0);
     CHECK(memcmp(arena, arena_then, lent[ARENA].length) == 0);
 }
 
@@ -129,7 +129,7 @@ static void test_in_turn(void)
     fresh(SIZE, 20, 16);
     pattern(lent[BUFFER].at, lent[BUFFER].length, 200);
     for (uint32_t lane = 0; lane < 16; lane++) {
-        CALL(0, ONLY(HANDLE), start(lane, 19 - lane));
+        CALL(0, ONLY(TABLE), start(lane, 19 - lane));
         content(19 - lane, before);
         CHECK(all_bytes(before, SIZE, 0));
     }
@@ -190,12 +190,12 @@ static void test_worked(void)
         CHECK(lent[ARENA].length == w->length);
         pattern(lent[BUFFER].at, w->size, 9);
         CHECK(worked_store(w, w->stores - 5).at == w->last_data);
-        CALL(0, ONLY(HANDLE), start(0, w->sector));
+        CALL(0, ONLY(TABLE), start(0, w->sector));
         for (uint32_t n = 1; n <= w->stores; n++) {
             step_stores(0, worked_store(w, n));
             cut_gives(w->sector, n == w->stores - 1, n < w->stores - 1 ? zeroes : lent[BUFFER].at);
         }
-        CHECK(handle->lane[0].busy == 0 && handle->lane[0].block == w->sector);
+        CHECK(table[0].busy == 0 && table[0].block == w->sector);
     }
 }
 
@@ -207,7 +207,7 @@ static void test_case_10(void)
     CALL(11, NOTHING, start(4, 0));
     CALL(11, NOTHING, step(4));
     CALL(11, NOTHING, write_sector(4, 0));
-    CALL(0, ONLY(HANDLE), start(0, 0));
+    CALL(0, ONLY(TABLE), start(0, 0));
     lend(BUFFER, 511);
     CALL(10, NOTHING, read_sector(59));
     CALL(10, NOTHING, step(0));

@@ -20,7 +20,7 @@
 
 #include "check.h"
 
-enum { TRAP_FLAG = 0x100, ROOM = 65536, MOST = 4096 };
+enum { TRAP_FLAG = 0x100, ROOM = 290816, WINDOW = 8192, MOST = 4096 };
 
 struct store {
     uintptr_t code;         /* the address of the instruction */
@@ -34,7 +34,7 @@ static struct store stores[MOST];
 static size_t made;
 static gregset_t at_fault;
 static size_t low, high;                    /* the part of the arena around a fault in which its store must lie, */
-static uint8_t before[ROOM], once[ROOM];    /* that part before the instruction and after its first run */
+static uint8_t before[WINDOW], once[WINDOW];    /* that part before the instruction and after its first run */
 static volatile sig_atomic_t watching, tracing;
 static enum { NO_STORE, FIRST_RUN, SECOND_RUN } phase;
 
@@ -82,8 +82,8 @@ static void on_fault(int signal, siginfo_t *info, void *context)
     }
     u->uc_mcontext.gregs[REG_EFL] |= TRAP_FLAG;
     memcpy(at_fault, u->uc_mcontext.gregs, sizeof at_fault);
-    low = at - arena < 4096 ? 0 : (size_t)(at - arena) - 4096;
-    high = low + 8192 < length ? low + 8192 : length;
+    low = at - arena < WINDOW / 2 ? 0 : (size_t)(at - arena) - WINDOW / 2;
+    high = low + WINDOW < length ? low + WINDOW : length;
     memcpy(before, arena + low, high - low);
     lock(0);
     phase = FIRST_RUN;

@@ -4,7 +4,7 @@ use std::fmt;
 
 /// Why a call was refused. The numbers are those of the library's table; an accepted call has no answer but `Ok`.
 ///
-/// A refused call changes no byte of the arena, of the sector buffer or of the handle. [`BadRecord`](Answer::BadRecord) is no call's: it
+/// A refused call changes no byte of the arena, of the sector buffer or of the lane table. [`BadRecord`](Answer::BadRecord) is no call's: it
 /// says why a [replay](crate::Arena::replay) ended.
 ///
 /// ```
@@ -49,18 +49,20 @@ pub enum Answer {
     LaneIdle = 14,
     /// 15: the sector read is marked bad: its map word has bit 30 (Error) alone.
     BadSector = 15,
-    /// 16: the handle breaks a figure, has a record out of range, does not match the arena's length, or has a layout that is neither 16
-    /// nor 32; or an opening of [`sys`](crate::sys) is told such a layout.
+    /// 16: the handle breaks a figure, does not match the arena's length, or has a layout that is neither 16 nor 32; or the record of a
+    /// lane is out of range; or an opening of [`sys`](crate::sys) is told such a layout.
     BadHandle = 16,
     /// 18: a map word with neither bit 31 nor bit 30 is not 0, or the padding of a lane is not zero.
     Sloppy = 18,
     /// 20: a record of a run log is short, has another length than its kind, or is of no known kind; or the log is too long.
     BadRecord = 20,
+    /// 21: the lane table is shorter than the lanes. It comes after the faults of the handle's figures, and before those of a record.
+    ShortTable = 21,
 }
 
 impl Answer {
     /// All the answers, in the order of their numbers.
-    pub const ALL: [Answer; 18] = [
+    pub const ALL: [Answer; 19] = [
         Answer::WrongLength,
         Answer::NoInfoBlock,
         Answer::ForbiddenFigure,
@@ -79,9 +81,10 @@ impl Answer {
         Answer::BadHandle,
         Answer::Sloppy,
         Answer::BadRecord,
+        Answer::ShortTable,
     ];
 
-    /// The answer's number in the library's table, 1 to 16, 18 or 20.
+    /// The answer's number in the library's table, 1 to 16, 18, 20 or 21.
     pub fn number(self) -> u32 {
         self as u32
     }
@@ -96,7 +99,7 @@ impl Answer {
         match (number, Answer::from_number(number)) {
             (0, _) => Ok(()),
             (_, Some(answer)) => Err(answer),
-            (_, None) => unreachable!("the library answers 0 to 16, 18 or 20, not {number}"),
+            (_, None) => unreachable!("the library answers 0 to 16, 18, 20 or 21, not {number}"),
         }
     }
 }
@@ -111,7 +114,7 @@ impl fmt::Display for Answer {
             Answer::NoInfoBlock => "this is no arena: neither its first 4,096 bytes nor its last are a sound info block",
             Answer::ForbiddenFigure => {
                 "a figure is forbidden: sectors are of 512, 520, 528, 4,096 or 4,104 bytes, blocks of as many rounded up to a multiple of 64, \
-                 lanes are 1 to 16 and not more than sectors, and the parts lie in order"
+                 lanes are 1 to 256 and not more than sectors, and the parts lie in order"
             }
             Answer::FlagsSet => "the info block has flags set, of which none is known",
             Answer::ShortWorkBuffer => "the work buffer is too short: opening needs a byte for each block, that is for each sector and each lane",
@@ -126,12 +129,14 @@ impl fmt::Display for Answer {
             Answer::LaneIdle => "the lane has no write in flight to go on with",
             Answer::BadSector => "the sector is marked bad, and cannot be read until it is written",
             Answer::BadHandle => {
-                "the handle does not belong to an arena of this length or is damaged, or the layout told is neither 16 nor 32"
+                "the handle does not belong to an arena of this length, or it or the record of a lane is damaged, or the layout told is \
+                 neither 16 nor 32"
             }
             Answer::Sloppy => "the arena is sloppy: a map word that should be zero is not, or the padding of a lane in the flog is not zero",
             Answer::BadRecord => {
                 "the log has a record that is short, of another length than its kind's or of no known kind, or is longer than 8,192 bytes"
             }
+            Answer::ShortTable => "the lane table is too short: every call needs a record in it for each lane of the arena",
         })
     }
 }
@@ -144,14 +149,14 @@ mod tests {
 
     #[test]
     fn numbers_go_both_ways() {
-        for (answer, number) in Answer::ALL.into_iter().zip((1..=16).chain([18, 20])) {
+        for (answer, number) in Answer::ALL.into_iter().zip((1..=16).chain([18, 20, 21])) {
             assert_eq!(answer.number(), number);
             assert_eq!(Answer::from_number(answer.number()), Some(answer));
             assert_eq!(Answer::outcome(answer.number()), Err(answer));
             assert!(answer.to_string().len() > 20);
         }
         assert_eq!(Answer::from_number(0), None);
-        assert!([17, 19, 21, u32::MAX].into_iter().all(|number| Answer::from_number(number).is_none()));
+        assert!([17, 19, 22, u32::MAX].into_iter().all(|number| Answer::from_number(number).is_none()));
         assert_eq!(Answer::outcome(0), Ok(()));
     }
 }

@@ -1,4 +1,5 @@
 //! The figures from which an arena is made.
+use crate::table::MAX_LANES;
 
 /// The least length of an arena in bytes. A length is a multiple of 4,096.
 pub const MIN_ARENA: usize = 20_480;
@@ -45,7 +46,7 @@ pub struct Geometry {
     pub size: u32,
     /// The number of sectors, at least the lanes.
     pub sectors: u32,
-    /// The number of lanes, 1 to 16: how many writes can be in flight at once.
+    /// The number of lanes, 1 to 256: how many writes can be in flight at once.
     pub lanes: u32,
 }
 
@@ -64,13 +65,15 @@ impl Geometry {
     /// assert_eq!(Geometry { size: 520, sectors: 60, lanes: 4 }.made_length(), Some(53_248));
     /// assert_eq!(Geometry { size: 4096, sectors: 1, lanes: 1 }.made_length(), Some(24_576));
     /// assert_eq!(Geometry { size: 4104, sectors: 1, lanes: 1 }.made_length(), Some(28_672));
+    /// assert_eq!(Geometry { size: 512, sectors: 256, lanes: 256 }.made_length(), Some(290_816));
+    /// assert_eq!(Geometry { size: 512, sectors: 257, lanes: 257 }.made_length(), None);
     /// assert_eq!(Geometry { size: 1024, sectors: 1, lanes: 1 }.made_length(), None);
     /// assert_eq!(Geometry { size: 4096, sectors: 1_000_000, lanes: 1 }.made_length(), None);
     /// ```
     pub fn made_length(&self) -> Option<u64> {
         let Geometry { size, sectors, lanes } = *self;
         let internal = internal_size(size)?;
-        if !(1..=16).contains(&lanes) || sectors < lanes {
+        if !(1..=MAX_LANES as u32).contains(&lanes) || sectors < lanes {
             return None;
         }
         let [internal, sectors, lanes] = [internal, sectors, lanes].map(u64::from);
@@ -98,7 +101,7 @@ impl Geometry {
     }
 }
 
-/// The two identifiers that an arena carries, 16 bytes each; the table has no use for them.
+/// The two identifiers that an arena carries, 16 bytes each; the library has no use for them.
 #[derive(Clone, Copy, Debug, PartialEq, Eq, Hash)]
 pub struct Identifiers<'a> {
     /// The arena's own, at byte 16 of the info block.
@@ -129,10 +132,10 @@ mod tests {
     /// From the shortest arena of a size and so many lanes on there is one for every number of bytes, and with one sector more it is too long.
     #[test]
     fn an_arena_fits_into_every_number_of_bytes() {
-        for ((size, _), lanes) in SIZES.into_iter().flat_map(|pair| [1, 4, 16].map(|lanes| (pair, lanes))) {
+        for ((size, _), lanes) in SIZES.into_iter().flat_map(|pair| [1, 4, 256].map(|lanes| (pair, lanes))) {
             let least = Geometry { size, sectors: lanes, lanes }.made_length().unwrap();
             assert_eq!(Geometry::fitting(least - 1, size, lanes), None);
-            for bytes in (least..least + 100_000).step_by(1000).chain([1 << 20, MAX_ARENA as u64, u64::MAX]) {
+            for bytes in (least..least + 100_000).step_by(1000).chain([1 << 22, MAX_ARENA as u64, u64::MAX]) {
                 let most = Geometry::fitting(bytes, size, lanes).unwrap();
                 assert!(most.made_length().is_some_and(|length| length <= bytes));
                 let more = Geometry { sectors: most.sectors + 1, ..most };

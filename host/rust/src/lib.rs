@@ -30,32 +30,35 @@
 //! ```
 //!
 //! [`OpenArena`] is enough for most. Below it are the calls: [`Arena`] and, for those that only read, [`ArenaRef`], with a [`Handle`]
-//! that opening gives and the host keeps. A refusal is an [`Answer`] with the number of the library's table. Nothing is kept between
-//! calls and nothing is allocated below [`OpenArena`] and [`AlignedBytes`], but in [`Arena::replay`], which runs a log of calls again.
+//! that opening gives and a table of [`Lane`]s that opening sets, both of which the host keeps. A refusal is an [`Answer`] with its number.
+//! Nothing is kept between calls and nothing is allocated below [`OpenArena`] and [`AlignedBytes`], but in [`Arena::replay`], which runs a
+//! log of calls again.
 //!
 //! # Power cuts
 //!
-//! A power cut keeps the first stores whole, however many, and no later one, and loses the handle. Cut a write anywhere and open the
-//! arena again:
+//! A power cut keeps the first stores whole, however many, and no later one, and loses handle and table. Cut a write anywhere and open
+//! the arena again:
 //!
 //! ```
-//! use btt::{AlignedBytes, Arena, Geometry, Identifiers};
+//! use btt::{AlignedBytes, Arena, Geometry, Identifiers, Lane};
 //!
 //! # fn main() -> Result<(), Box<dyn std::error::Error>> {
 //! # let mut memory = AlignedBytes::zeroed(49_152);
 //! let mut arena = Arena::new(&mut memory)?;
 //! arena.make(Geometry { size: 512, sectors: 60, lanes: 4 }, Identifiers::ZEROES)?;
-//! let mut handle = arena.open(&mut [0; 64])?.handle;
-//! arena.start(&mut handle, 0, 7)?;
+//! let mut table = [Lane::default(); 4];
+//! let handle = arena.open(&mut [0; 64], &mut table)?.handle;
+//! arena.start(&handle, &mut table, 0, 7)?;
 //! for _ in 0..132 {
-//!     arena.step(&mut handle, 0, &[1; 512])?;
+//!     arena.step(&handle, &mut table, 0, &[1; 512])?;
 //! }
 //!
 //! // The sequence word, store 132 of 133, is in: the write counts, and opening stores the map word that it lacks.
-//! let opened = arena.open(&mut [0; 64])?;
+//! let mut table = [Lane::default(); 4];
+//! let opened = arena.open(&mut [0; 64], &mut table)?;
 //! assert_eq!(opened.mended, 1);
 //! let mut sector = [0; 512];
-//! arena.read(&opened.handle, 7, &mut sector)?;
+//! arena.read(&opened.handle, &table, 7, &mut sector)?;
 //! assert_eq!(sector, [1; 512]);
 //! # Ok(())
 //! # }
@@ -87,6 +90,14 @@
 //! Opening mends by one store to the map for each pending lane. Where every store needs a flush, call [`Arena::cut_open`] with 1 as
 //! often as its first answer counts lanes, and flush the map and fence after each call; [`Arena::open`] then finds nothing to mend and
 //! stores nothing.
+//!
+//! # Lanes
+//!
+//! An arena has 1 to 256 lanes ([`MAX_LANES`]), and as many writes can be in flight at once. What is remembered of a lane is its [`Lane`],
+//! a record of 28 bytes. The records stand in a table, a slice that the caller lends to every call; it needs one for each lane, and those
+//! past the lanes are any values and stay so. An accepted start, step or whole write changes the record of its own lane, an accepted
+//! opening sets the records of all lanes, and nothing else changes the table. [`OpenArena`] has a table of its own, or
+//! [takes one](OpenArena::open_with).
 //!
 //! # Sizes
 //!
@@ -121,6 +132,7 @@ mod layout;
 mod open_arena;
 mod replay;
 pub mod sys;
+mod table;
 mod view;
 
 pub use aligned::AlignedBytes;
@@ -129,8 +141,9 @@ pub use arena::{Arena, Opened};
 pub use geometry::{
     internal_size, Geometry, Identifiers, ID_SIZE, INFO_SIZE, MAX_ARENA, MAX_BLOCKS, MAX_SECTOR, MIN_ARENA, SIZES,
 };
-pub use handle::{Handle, Lane, HANDLE_SIZE, LANE_SIZE, MAX_LANES};
+pub use handle::{Handle, HANDLE_SIZE};
 pub use layout::{Layout, UnknownLayout};
 pub use open_arena::{OpenArena, Store};
 pub use replay::{Replay, MAX_LOG, MAX_RECORDS};
+pub use table::{Lane, Table, LANE_SIZE, MAX_LANES};
 pub use view::{ArenaRef, Misaligned};

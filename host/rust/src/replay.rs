@@ -47,8 +47,8 @@ impl Arena<'_> {
     /// that is short, has another length than its kind, or is of another kind ends it, and so does, at offset 0, a log that is longer;
     /// what ran before stays in the arena.
     ///
-    /// Every opening is in the usual layout, [`Layout::Near`](crate::Layout::Near). It lends a work buffer that serves every arena.
-    /// Answers 1 to 4, 6, 7, 18 and 8 as the opening does, and nothing ran then.
+    /// Every opening is in the usual layout, [`Layout::Near`](crate::Layout::Near). It lends a work buffer that serves every arena, and the
+    /// library has a table of its own. Answers 1 to 4, 6, 7, 18 and 8 as the opening does, and nothing ran then.
     ///
     /// ```
     /// use btt::{AlignedBytes, Answer, Arena, Geometry, Identifiers};

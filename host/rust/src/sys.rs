@@ -1,9 +1,9 @@
 //! The functions of the library as C sees them, without any wrapping. The rest of this crate is safe to call and offers the same.
 //!
 //! What a caller keeps in every call: a pointer is valid for the length that is given after it, or null with length 0; no two of the
-//! slices, the handle and the numbers of a call share a byte; the arena's address is a multiple of 4; and no other thread changes
-//! what a call was given, or reads what the call may change, until it is back. Each function gives 0 or the number of an
-//! [`Answer`](crate::Answer).
+//! slices, the handle and the numbers of a call share a byte; the addresses of the arena and of the table are multiples of 4; and no other
+//! thread changes what a call was given, or reads what the call may change, until it is back. A table's length counts records, all other
+//! lengths bytes. Each function gives 0 or the number of an [`Answer`](crate::Answer).
 use crate::{Handle, Lane};
 
 extern "C" {
@@ -24,13 +24,15 @@ extern "C" {
     pub fn btt_info_block(arena: *const u8, arena_length: usize, offset: *mut u64, length: *mut u64);
 
     /// Opens an arena: see [`Arena::open_in`](crate::Arena::open_in). Any number may be given as the layout: one that is neither 16 nor 32
-    /// is answered with 16, before all else. A refusal makes the count 0 and the handle all zeroes.
+    /// is answered with 16, before all else. A refusal makes the count 0 and the handle all zeroes, and leaves the table.
     pub fn btt_open(
         arena: *mut u8,
         arena_length: usize,
         work: *mut u8,
         work_length: usize,
         layout: u32,
+        table: *mut Lane,
+        table_length: usize,
         handle: *mut Handle,
         mended: *mut u32,
     ) -> u32;
@@ -43,6 +45,8 @@ extern "C" {
         work: *mut u8,
         work_length: usize,
         layout: u32,
+        table: *const Lane,
+        table_length: usize,
         k: u32,
         mended: *mut u32,
     ) -> u32;
@@ -52,19 +56,31 @@ extern "C" {
         arena: *const u8,
         arena_length: usize,
         handle: *const Handle,
+        table: *const Lane,
+        table_length: usize,
         sector: u32,
         buffer: *mut u8,
         buffer_length: usize,
     ) -> u32;
 
     /// Starts a write: see [`ArenaRef::start`](crate::ArenaRef::start).
-    pub fn btt_start(arena: *const u8, arena_length: usize, handle: *mut Handle, lane: u32, sector: u32) -> u32;
+    pub fn btt_start(
+        arena: *const u8,
+        arena_length: usize,
+        handle: *const Handle,
+        table: *mut Lane,
+        table_length: usize,
+        lane: u32,
+        sector: u32,
+    ) -> u32;
 
     /// Makes the next store of a write: see [`Arena::step`](crate::Arena::step).
     pub fn btt_step(
         arena: *mut u8,
         arena_length: usize,
-        handle: *mut Handle,
+        handle: *const Handle,
+        table: *mut Lane,
+        table_length: usize,
         lane: u32,
         buffer: *const u8,
         buffer_length: usize,
@@ -74,7 +90,9 @@ extern "C" {
     pub fn btt_write(
         arena: *mut u8,
         arena_length: usize,
-        handle: *mut Handle,
+        handle: *const Handle,
+        table: *mut Lane,
+        table_length: usize,
         lane: u32,
         sector: u32,
         buffer: *const u8,
@@ -82,14 +100,30 @@ extern "C" {
     ) -> u32;
 
     /// A lane's record: see [`ArenaRef::lane`](crate::ArenaRef::lane). A refusal leaves the record.
-    pub fn btt_lane_record(arena: *const u8, arena_length: usize, handle: *const Handle, lane: u32, record: *mut Lane) -> u32;
+    pub fn btt_lane_record(
+        arena: *const u8,
+        arena_length: usize,
+        handle: *const Handle,
+        table: *const Lane,
+        table_length: usize,
+        lane: u32,
+        record: *mut Lane,
+    ) -> u32;
 
     /// Where a lane's next step stores: see [`ArenaRef::next_store`](crate::ArenaRef::next_store). A refusal leaves the offset.
-    pub fn btt_next_store(arena: *const u8, arena_length: usize, handle: *const Handle, lane: u32, offset: *mut u64) -> u32;
+    pub fn btt_next_store(
+        arena: *const u8,
+        arena_length: usize,
+        handle: *const Handle,
+        table: *const Lane,
+        table_length: usize,
+        lane: u32,
+        offset: *mut u64,
+    ) -> u32;
 
-    /// Replays a run log: see [`Arena::replay`](crate::Arena::replay). The number is that of the opening, else 20 if a record ended the
-    /// replay, else 0. The answers get a byte for each record that ran, as many as fit; the two numbers are how many ran, and the byte
-    /// offset at which the record begins that ended the replay, 0 if none did.
+    /// Replays a run log, with a table of its own: see [`Arena::replay`](crate::Arena::replay). The number is that of the opening, else 20 if
+    /// a record ended the replay, else 0. The answers get a byte for each record that ran, as many as fit; the two numbers are how many
+    /// ran, and the byte offset at which the record begins that ended the replay, 0 if none did.
     pub fn btt_replay(
         arena: *mut u8,
         arena_length: usize,

@@ -1,5 +1,6 @@
 //! The calls that only read an arena.
-use crate::handle::{Handle, Lane};
+use crate::handle::Handle;
+use crate::table::Lane;
 use crate::{sys, Answer};
 use std::error::Error;
 use std::fmt;
@@ -30,7 +31,7 @@ pub(crate) fn address_allowed(bytes: &[u8]) -> bool {
 /// let memory = AlignedBytes::zeroed(49_152);
 /// let arena = ArenaRef::new(&memory).unwrap();
 /// assert_eq!(arena.info_block(), None);
-/// assert_eq!(arena.read(&Handle::default(), 0, &mut [0; 512]), Err(Answer::BadHandle));
+/// assert_eq!(arena.read(&Handle::default(), &[], 0, &mut [0; 512]), Err(Answer::BadHandle));
 /// assert_eq!(ArenaRef::new(&memory[1..]).unwrap_err(), Misaligned);
 /// ```
 #[derive(Clone, Copy)]
@@ -92,69 +93,79 @@ impl<'a> ArenaRef<'a> {
     /// the sector was never written or its map word has bit 31 (Zero) alone. A write in flight is not seen until its map word, its last
     /// store, is stored.
     ///
-    /// Answers [`BadHandle`](Answer::BadHandle), [`NoSuchSector`](Answer::NoSuchSector), [`WrongBuffer`](Answer::WrongBuffer),
+    /// Answers [`BadHandle`](Answer::BadHandle) (the handle), [`ShortTable`](Answer::ShortTable), [`BadHandle`](Answer::BadHandle) (a
+    /// record of the table), [`NoSuchSector`](Answer::NoSuchSector), [`WrongBuffer`](Answer::WrongBuffer),
     /// [`BadMapWord`](Answer::BadMapWord) and [`Sloppy`](Answer::Sloppy) (of that sector's word), [`BadSector`](Answer::BadSector), the
-    /// first that applies.
-    pub fn read(self, handle: &Handle, sector: u32, buffer: &mut [u8]) -> Result<(), Answer> {
-        // SAFETY: the pointers are of two slices with their lengths and of a handle; the buffer is borrowed alone, so it lies apart
-        // from the others; the arena's address was looked at by `new`.
+    /// first that applies. Every call with a handle begins with the first three.
+    pub fn read(self, handle: &Handle, table: &[Lane], sector: u32, buffer: &mut [u8]) -> Result<(), Answer> {
+        let (bytes, length) = (self.address(), self.bytes.len());
+        // SAFETY: the pointers are of three slices with their lengths and of a handle; the buffer is borrowed alone, so it lies apart
+        // from the others; the arena's address was looked at by `new`, and that of records is a multiple of 4.
         Answer::outcome(unsafe {
-            sys::btt_read(self.address(), self.bytes.len(), handle, sector, buffer.as_mut_ptr(), buffer.len())
+            sys::btt_read(bytes, length, handle, table.as_ptr(), table.len(), sector, buffer.as_mut_ptr(), buffer.len())
         })
     }
 
-    /// Starts a write to a sector on an idle lane. The arena is not changed; the lane's record remembers the write.
+    /// Starts a write to a sector on an idle lane. The arena is not changed; the lane's record in the table remembers the write.
     ///
-    /// Answers [`BadHandle`](Answer::BadHandle), [`NoSuchLane`](Answer::NoSuchLane), [`LaneBusy`](Answer::LaneBusy),
+    /// Answers [those of handle and table](ArenaRef::read), [`NoSuchLane`](Answer::NoSuchLane), [`LaneBusy`](Answer::LaneBusy),
     /// [`NoSuchSector`](Answer::NoSuchSector), [`SectorBusy`](Answer::SectorBusy), [`BadMapWord`](Answer::BadMapWord) and
     /// [`Sloppy`](Answer::Sloppy) (of that sector's word), the first that applies.
-    pub fn start(self, handle: &mut Handle, lane: u32, sector: u32) -> Result<(), Answer> {
-        // SAFETY: the pointers are of a slice with its length and of a handle that is borrowed alone; the arena's address was looked
-        // at by `new`.
-        Answer::outcome(unsafe { sys::btt_start(self.address(), self.bytes.len(), handle, lane, sector) })
+    pub fn start(self, handle: &Handle, table: &mut [Lane], lane: u32, sector: u32) -> Result<(), Answer> {
+        let (bytes, length) = (self.address(), self.bytes.len());
+        // SAFETY: the pointers are of two slices with their lengths and of a handle; the table is borrowed alone, so it lies apart from
+        // the others; the arena's address was looked at by `new`, and that of records is a multiple of 4.
+        Answer::outcome(unsafe { sys::btt_start(bytes, length, handle, table.as_mut_ptr(), table.len(), lane, sector) })
     }
 
-    /// A lane's record, judged with the whole handle.
+    /// A lane's record, judged with the whole handle and the other lanes' records.
     ///
-    /// Answers [`BadHandle`](Answer::BadHandle), [`NoSuchLane`](Answer::NoSuchLane), the first that applies.
+    /// Answers [those of handle and table](ArenaRef::read), [`NoSuchLane`](Answer::NoSuchLane), the first that applies.
     ///
     /// ```
     /// # use btt::{AlignedBytes, Answer, Arena, Geometry, Identifiers, Lane};
     /// # let mut memory = AlignedBytes::zeroed(49_152);
     /// # let mut arena = Arena::new(&mut memory).unwrap();
     /// # arena.make(Geometry { size: 512, sectors: 60, lanes: 4 }, Identifiers::ZEROES).unwrap();
-    /// let handle = arena.open(&mut [0; 64]).unwrap().handle;
+    /// let mut table = [Lane::default(); 4];
+    /// let handle = arena.open(&mut [0; 64], &mut table).unwrap().handle;
     /// let fresh = Lane { block: 61, half: 1, sequence: 2, ..Lane::default() };
-    /// assert_eq!(arena.lane(&handle, 1), Ok(fresh));
-    /// assert_eq!(arena.lane(&handle, 4), Err(Answer::NoSuchLane));
+    /// assert_eq!(arena.lane(&handle, &table, 1), Ok(fresh));
+    /// assert_eq!(arena.lane(&handle, &table, 4), Err(Answer::NoSuchLane));
+    /// assert_eq!(arena.lane(&handle, &table[..3], 1), Err(Answer::ShortTable));
     /// ```
-    pub fn lane(self, handle: &Handle, lane: u32) -> Result<Lane, Answer> {
-        let mut record = Lane::default();
-        // SAFETY: the pointers are of a slice with its length, of a handle and of a record of this function's own; the arena's
-        // address was looked at by `new`.
-        Answer::outcome(unsafe { sys::btt_lane_record(self.address(), self.bytes.len(), handle, lane, &raw mut record) })?;
+    pub fn lane(self, handle: &Handle, table: &[Lane], lane: u32) -> Result<Lane, Answer> {
+        let (bytes, length, mut record) = (self.address(), self.bytes.len(), Lane::default());
+        // SAFETY: the pointers are of two slices with their lengths, of a handle and of a record of this function's own; the arena's
+        // address was looked at by `new`, and that of records is a multiple of 4.
+        Answer::outcome(unsafe {
+            sys::btt_lane_record(bytes, length, handle, table.as_ptr(), table.len(), lane, &raw mut record)
+        })?;
         Ok(record)
     }
 
     /// The byte offset of the one word that the lane's next step will store, so that a host can flush just its line.
     ///
-    /// Answers [`BadHandle`](Answer::BadHandle), [`NoSuchLane`](Answer::NoSuchLane), [`LaneIdle`](Answer::LaneIdle), the first that
-    /// applies.
+    /// Answers [those of handle and table](ArenaRef::read), [`NoSuchLane`](Answer::NoSuchLane), [`LaneIdle`](Answer::LaneIdle), the first
+    /// that applies.
     ///
     /// ```
-    /// # use btt::{AlignedBytes, Answer, Arena, Geometry, Identifiers};
+    /// # use btt::{AlignedBytes, Answer, Arena, Geometry, Identifiers, Lane};
     /// # let mut memory = AlignedBytes::zeroed(49_152);
     /// # let mut arena = Arena::new(&mut memory).unwrap();
     /// # arena.make(Geometry { size: 512, sectors: 60, lanes: 4 }, Identifiers::ZEROES).unwrap();
-    /// let mut handle = arena.open(&mut [0; 64]).unwrap().handle;
-    /// assert_eq!(arena.next_store(&handle, 0), Err(Answer::LaneIdle));
-    /// arena.start(&mut handle, 0, 7).unwrap();
-    /// assert_eq!(arena.next_store(&handle, 0), Ok(34_816));
+    /// # let mut table = [Lane::default(); 4];
+    /// let handle = arena.open(&mut [0; 64], &mut table).unwrap().handle;
+    /// assert_eq!(arena.next_store(&handle, &table, 0), Err(Answer::LaneIdle));
+    /// arena.start(&handle, &mut table, 0, 7).unwrap();
+    /// assert_eq!(arena.next_store(&handle, &table, 0), Ok(34_816));
     /// ```
-    pub fn next_store(self, handle: &Handle, lane: u32) -> Result<u64, Answer> {
-        let mut offset = 0;
+    pub fn next_store(self, handle: &Handle, table: &[Lane], lane: u32) -> Result<u64, Answer> {
+        let (bytes, length, mut offset) = (self.address(), self.bytes.len(), 0);
         // SAFETY: as in `lane`, with a number in the place of the record.
-        Answer::outcome(unsafe { sys::btt_next_store(self.address(), self.bytes.len(), handle, lane, &raw mut offset) })?;
+        Answer::outcome(unsafe {
+            sys::btt_next_store(bytes, length, handle, table.as_ptr(), table.len(), lane, &raw mut offset)
+        })?;
         Ok(offset)
     }
 }

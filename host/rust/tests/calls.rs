@@ -24,14 +24,17 @@ fn fresh_of(geometry: Geometry) -> AlignedBytes {
     memory
 }
 
-fn opened(memory: &mut AlignedBytes) -> (Arena<'_>, Handle) {
+/// A table for four lanes.
+type Table = [Lane; 4];
+
+fn opened(memory: &mut AlignedBytes) -> (Arena<'_>, Handle, Table) {
     opened_in(Layout::Near, memory)
 }
 
-fn opened_in(layout: Layout, memory: &mut AlignedBytes) -> (Arena<'_>, Handle) {
-    let mut arena = Arena::new(memory).unwrap();
-    let handle = arena.open_in(layout, &mut [0; 64]).unwrap().handle;
-    (arena, handle)
+fn opened_in(layout: Layout, memory: &mut AlignedBytes) -> (Arena<'_>, Handle, Table) {
+    let (mut arena, mut table) = (Arena::new(memory).unwrap(), Table::default());
+    let handle = arena.open_in(layout, &mut [0; 64], &mut table).unwrap().handle;
+    (arena, handle, table)
 }
 
 #[test]
@@ -64,7 +67,7 @@ fn lengths_are_those_worked_out() {
         (4104, 3, 2, 4160, [4096, 28_672, 32_768, 36_864]),
     ] {
         let mut memory = fresh_of(Geometry { size, sectors, lanes });
-        let (_, handle) = opened(&mut memory);
+        let (_, handle, _) = opened(&mut memory);
         assert_eq!((handle.size, handle.internal, handle.blocks), (size, internal, sectors + lanes));
         assert_eq!([handle.data, handle.map, handle.flog, handle.copy], starts);
     }
@@ -72,9 +75,10 @@ fn lengths_are_those_worked_out() {
 
 #[test]
 fn the_work_buffer_for_every_arena_is_long_enough() {
-    let most = SIZES.map(|(size, _)| Geometry::fitting(u64::MAX, size, 16).unwrap().sectors as usize + 16);
-    assert_eq!(most, [32_488, 28_899, 28_899, 4089, 4026]);
-    assert_eq!(most.into_iter().max(), Some(MAX_BLOCKS));
+    let most = |lanes| SIZES.map(|(size, _)| (Geometry::fitting(u64::MAX, size, lanes).unwrap().sectors + lanes) as usize);
+    assert_eq!(most(16), [32_488, 28_899, 28_899, 4089, 4026]);
+    assert_eq!(most(256), [32_464, 28_885, 28_885, 4086, 4023]);
+    assert_eq!((1..=256).flat_map(most).max(), Some(MAX_BLOCKS));
 }
 
 /// A write of lane 0 of a fresh arena: the places of its first data word, its first flog word in both layouts and its map word.
@@ -106,18 +110,18 @@ fn a_write_makes_the_stores_that_are_worked_out() {
 fn stores_of_a_write(worked: &Worked, layout: Layout, flog: usize) {
     let ((size, sectors, lanes), sector) = (worked.geometry, worked.sector);
     let mut memory = fresh_of(Geometry { size, sectors, lanes });
-    let (mut arena, mut handle) = opened_in(layout, &mut memory);
+    let (mut arena, handle, mut table) = opened_in(layout, &mut memory);
     let buffer: Vec<u8> = (0..size).map(|i| (i * 7) as u8).collect();
-    arena.start(&mut handle, 0, sector).unwrap();
+    arena.start(&handle, &mut table, 0, sector).unwrap();
     let mut stores = Vec::new();
     for number in 1..=worked.stores {
-        assert_eq!(arena.lane(&handle, 0).unwrap().made, number - 1);
+        assert_eq!(arena.lane(&handle, &table, 0).unwrap().made, number - 1);
         let mut seen = vec![1; buffer.len()];
-        arena.read(&handle, sector, &mut seen).unwrap();
+        arena.read(&handle, &table, sector, &mut seen).unwrap();
         assert!(seen.iter().all(|byte| *byte == 0), "the old sector until the map word is stored");
         let before = arena.bytes().to_vec();
-        let offset = arena.next_store(&handle, 0).unwrap() as usize;
-        arena.step(&mut handle, 0, &buffer).unwrap();
+        let offset = arena.next_store(&handle, &table, 0).unwrap() as usize;
+        arena.step(&handle, &mut table, 0, &buffer).unwrap();
         let after = arena.bytes();
         assert!(before[..offset] == after[..offset] && before[offset + 4..] == after[offset + 4..]);
         stores.push((offset, word(after, offset)));
@@ -126,8 +130,8 @@ fn stores_of_a_write(worked: &Worked, layout: Layout, flog: usize) {
     expected.extend([sector, sector, sectors, 2].into_iter().enumerate().map(|(i, value)| (flog + 4 * i, value)));
     expected.push((worked.map, 0xC000_0000 + sectors));
     assert_eq!(stores, expected);
-    assert_eq!(arena.lane(&handle, 0), Ok(Lane { block: sector, half: 0, sequence: 3, ..Lane::default() }));
-    assert_eq!(arena.next_store(&handle, 0), Err(Answer::LaneIdle));
+    assert_eq!(arena.lane(&handle, &table, 0), Ok(Lane { block: sector, half: 0, sequence: 3, ..Lane::default() }));
+    assert_eq!(arena.next_store(&handle, &table, 0), Err(Answer::LaneIdle));
 }
 
 #[test]
@@ -135,18 +139,21 @@ fn a_cut_write_is_old_or_new() {
     let cuts = [(0, false, 0), (131, false, 0), (132, true, 1), (133, true, 0)];
     for (layout, (kept, new, mended)) in Layout::ALL.into_iter().flat_map(|layout| cuts.map(|cut| (layout, cut))) {
         let mut memory = fresh();
-        let (mut arena, mut handle) = opened_in(layout, &mut memory);
-        arena.start(&mut handle, 0, 7).unwrap();
+        let (mut arena, handle, mut table) = opened_in(layout, &mut memory);
+        arena.start(&handle, &mut table, 0, 7).unwrap();
         for _ in 0..kept {
-            arena.step(&mut handle, 0, &[5; 512]).unwrap();
+            arena.step(&handle, &mut table, 0, &[5; 512]).unwrap();
         }
-        assert_eq!(arena.cut_open_in(layout, &mut [0; 64], 0), Ok(mended));
-        let opened = arena.open_in(layout, &mut [0; 64]).unwrap();
+        let mut table = Table::default();
+        assert_eq!(arena.cut_open_in(layout, &mut [0; 64], &table, 0), Ok(mended));
+        let opened = arena.open_in(layout, &mut [0; 64], &mut table).unwrap();
         assert_eq!(opened.mended, mended);
         let mut buffer = [9; 512];
-        arena.read(&opened.handle, 7, &mut buffer).unwrap();
+        arena.read(&opened.handle, &table, 7, &mut buffer).unwrap();
         assert_eq!(buffer, [if new { 5 } else { 0 }; 512]);
-        assert_eq!(arena.open_in(layout, &mut [0; 64]), Ok(Opened { mended: 0, handle: opened.handle }));
+        let mut again = Table::default();
+        assert_eq!(arena.open_in(layout, &mut [0; 64], &mut again), Ok(Opened { mended: 0, handle: opened.handle }));
+        assert_eq!(again, table);
     }
 }
 
@@ -162,16 +169,18 @@ fn halves_are_judged_as_in_cases_6_to_8() {
             let mut memory = fresh();
             half(&mut memory, 0, [7, 7, 60, 2]);
             put_word(&mut memory, MAP + 28, found);
-            let found = Arena::new(&mut memory).unwrap().open_in(layout, &mut [0; 64]).unwrap();
-            assert_eq!((found.mended, found.handle.lane[0].block), (mended, 7));
+            let mut table = Table::default();
+            let found = Arena::new(&mut memory).unwrap().open_in(layout, &mut [0; 64], &mut table).unwrap();
+            assert_eq!((found.mended, table[0].block), (mended, 7));
             assert_eq!(word(&memory, MAP + 28), 0xC000_003C);
         }
         let mut memory = fresh();
         half(&mut memory, 0, [7, 7, 60, 2]);
         half(&mut memory, 1, [7, 60, 61, 2]);
         put_word(&mut memory, MAP + 28, 0xC000_003D);
-        let found = Arena::new(&mut memory).unwrap().open_in(layout, &mut [0; 64]).unwrap();
-        assert_eq!((found.mended, found.handle.lane[0].block, found.handle.lane[1].block), (0, 7, 60));
+        let mut table = Table::default();
+        let found = Arena::new(&mut memory).unwrap().open_in(layout, &mut [0; 64], &mut table).unwrap();
+        assert_eq!((found.mended, table[0].block, table[1].block), (0, 7, 60));
     }
 }
 
@@ -192,8 +201,8 @@ fn making_is_refused_in_order() {
         (520, 3, 4),
         (512, 60, 0),
         (528, 60, 0),
-        (512, 60, 17),
-        (4104, 60, 17),
+        (512, 300, 257),
+        (4104, 300, 257),
         (512, 0, 0),
     ] {
         assert_eq!(make(0, Geometry { size, sectors, lanes }, &[], &[]), Err(Answer::ForbiddenFigure));
@@ -203,7 +212,7 @@ fn making_is_refused_in_order() {
     assert_eq!(make(49_152, GEOMETRY, &[], &id), Err(Answer::WrongBuffer));
     assert_eq!(make(49_152, GEOMETRY, &id, &[0; 17]), Err(Answer::WrongBuffer));
     assert_eq!(make(49_152, GEOMETRY, &id, &id), Ok(()));
-    let huge = Geometry { size: 512, sectors: u32::MAX, lanes: 16 };
+    let huge = Geometry { size: 512, sectors: u32::MAX, lanes: 256 };
     assert_eq!((huge.made_length(), make(49_152, huge, &id, &id)), (None, Err(Answer::WrongLength)));
 }
 
@@ -215,8 +224,9 @@ fn opening_is_refused_with_each_number() {
             change(&mut memory);
             let before = memory.clone();
             let mut work = vec![7; room];
-            let answer = Arena::new(&mut memory[..length]).unwrap().open_in(layout, &mut work).unwrap_err();
-            assert_eq!(memory, before, "a refusal changes nothing");
+            let mut table = Table::default();
+            let answer = Arena::new(&mut memory[..length]).unwrap().open_in(layout, &mut work, &mut table).unwrap_err();
+            assert_eq!((memory, table), (before, Table::default()), "a refusal changes nothing");
             let cleared = answer.number() > 5;
             assert_eq!(work.iter().position(|byte| *byte == 7), Some(if cleared { 64 } else { 0 }).filter(|_| room > 0));
             answer.number()
@@ -251,54 +261,54 @@ fn a_map_word_is_read_by_its_flags() {
         [(0, Ok([0; 512])), (0x4000_0005, Err(Answer::BadSector)), (0x8000_0005, Ok([0; 512])), (0xC000_0005, Ok([7; 512]))]
     {
         put_word(&mut memory, MAP + 4 * 5, word);
-        let (arena, handle) = opened(&mut memory);
+        let (arena, handle, table) = opened(&mut memory);
         let mut buffer = [3; 512];
-        assert_eq!(arena.read(&handle, 5, &mut buffer).map(|()| buffer), read, "{word:#010x}");
+        assert_eq!(arena.read(&handle, &table, 5, &mut buffer).map(|()| buffer), read, "{word:#010x}");
     }
-    let (_, handle) = opened(&mut memory);
+    let (_, handle, mut table) = opened(&mut memory);
     put_word(&mut memory, MAP + 4 * 7, 0x0000_0005);
     let mut arena = Arena::new(&mut memory).unwrap();
-    assert_eq!(arena.read(&handle, 7, &mut [3; 512]), Err(Answer::Sloppy), "neither bit, and not 0");
-    assert_eq!(arena.open(&mut [0; 64]), Err(Answer::Sloppy));
+    assert_eq!(arena.read(&handle, &table, 7, &mut [3; 512]), Err(Answer::Sloppy), "neither bit, and not 0");
+    assert_eq!(arena.open(&mut [0; 64], &mut table), Err(Answer::Sloppy));
 }
 
 #[test]
 fn reads_and_writes_are_refused_with_each_number() {
     let mut memory = fresh();
     put_word(&mut memory, MAP + 4 * 5, 0x4000_0005);
-    let (mut arena, mut handle) = opened(&mut memory);
+    let (mut arena, handle, mut table) = opened(&mut memory);
     let mut buffer = [3; 512];
-    assert_eq!(arena.read(&handle, 59, &mut buffer), Ok(()));
+    assert_eq!(arena.read(&handle, &table, 59, &mut buffer), Ok(()));
     let mut buffer = [3; 512];
-    assert_eq!(arena.read(&handle, 60, &mut buffer), Err(Answer::NoSuchSector));
-    assert_eq!(arena.read(&handle, 0, &mut buffer[..511]), Err(Answer::WrongBuffer));
-    assert_eq!(arena.read(&handle, 0, &mut []), Err(Answer::WrongBuffer));
-    assert_eq!(arena.read(&handle, 5, &mut buffer), Err(Answer::BadSector));
-    assert_eq!(arena.read(&Handle::default(), 5, &mut buffer), Err(Answer::BadHandle));
+    assert_eq!(arena.read(&handle, &table, 60, &mut buffer), Err(Answer::NoSuchSector));
+    assert_eq!(arena.read(&handle, &table, 0, &mut buffer[..511]), Err(Answer::WrongBuffer));
+    assert_eq!(arena.read(&handle, &table, 0, &mut []), Err(Answer::WrongBuffer));
+    assert_eq!(arena.read(&handle, &table, 5, &mut buffer), Err(Answer::BadSector));
+    assert_eq!(arena.read(&Handle::default(), &table, 5, &mut buffer), Err(Answer::BadHandle));
     assert_eq!(buffer, [3; 512]);
-    arena.start(&mut handle, 1, 8).unwrap();
-    let before = (arena.bytes().to_vec(), handle);
-    assert_eq!(arena.start(&mut handle, 4, 60), Err(Answer::NoSuchLane));
-    assert_eq!(arena.start(&mut handle, 1, 60), Err(Answer::LaneBusy));
-    assert_eq!(arena.start(&mut handle, 0, 60), Err(Answer::NoSuchSector));
-    assert_eq!(arena.start(&mut handle, 0, 8), Err(Answer::SectorBusy));
-    assert_eq!(arena.write(&mut handle, 0, 8, &buffer[..511]), Err(Answer::WrongBuffer));
-    assert_eq!(arena.write(&mut handle, 0, 8, &buffer), Err(Answer::SectorBusy));
-    assert_eq!(arena.write(&mut handle, 0, 60, &[]), Err(Answer::NoSuchSector));
-    assert_eq!(arena.step(&mut handle, 4, &buffer), Err(Answer::NoSuchLane));
-    assert_eq!(arena.step(&mut handle, 0, &[]), Err(Answer::LaneIdle));
-    assert_eq!(arena.step(&mut handle, 1, &buffer[..511]), Err(Answer::WrongBuffer));
-    assert_eq!((arena.bytes(), handle), (&before.0[..], before.1));
-    assert_eq!(arena.write(&mut handle, 2, 5, &buffer), Ok(()), "a write makes a bad sector good");
-    assert_eq!(arena.read(&handle, 5, &mut buffer), Ok(()));
+    arena.start(&handle, &mut table, 1, 8).unwrap();
+    let before = (arena.bytes().to_vec(), table);
+    assert_eq!(arena.start(&handle, &mut table, 4, 60), Err(Answer::NoSuchLane));
+    assert_eq!(arena.start(&handle, &mut table, 1, 60), Err(Answer::LaneBusy));
+    assert_eq!(arena.start(&handle, &mut table, 0, 60), Err(Answer::NoSuchSector));
+    assert_eq!(arena.start(&handle, &mut table, 0, 8), Err(Answer::SectorBusy));
+    assert_eq!(arena.write(&handle, &mut table, 0, 8, &buffer[..511]), Err(Answer::WrongBuffer));
+    assert_eq!(arena.write(&handle, &mut table, 0, 8, &buffer), Err(Answer::SectorBusy));
+    assert_eq!(arena.write(&handle, &mut table, 0, 60, &[]), Err(Answer::NoSuchSector));
+    assert_eq!(arena.step(&handle, &mut table, 4, &buffer), Err(Answer::NoSuchLane));
+    assert_eq!(arena.step(&handle, &mut table, 0, &[]), Err(Answer::LaneIdle));
+    assert_eq!(arena.step(&handle, &mut table, 1, &buffer[..511]), Err(Answer::WrongBuffer));
+    assert_eq!((arena.bytes(), table), (&before.0[..], before.1));
+    assert_eq!(arena.write(&handle, &mut table, 2, 5, &buffer), Ok(()), "a write makes a bad sector good");
+    assert_eq!(arena.read(&handle, &table, 5, &mut buffer), Ok(()));
     let bytes = arena.into_bytes();
     put_word(bytes, MAP, 0xC000_0040);
     put_word(bytes, MAP + 4, 0x0000_0001);
     let mut arena = Arena::new(bytes).unwrap();
     for (sector, answer) in [(0, Answer::BadMapWord), (1, Answer::Sloppy)] {
-        assert_eq!(arena.read(&handle, sector, &mut buffer), Err(answer));
-        assert_eq!(arena.start(&mut handle, 0, sector), Err(answer));
-        assert_eq!(arena.write(&mut handle, 0, sector, &buffer), Err(answer));
+        assert_eq!(arena.read(&handle, &table, sector, &mut buffer), Err(answer));
+        assert_eq!(arena.start(&handle, &mut table, 0, sector), Err(answer));
+        assert_eq!(arena.write(&handle, &mut table, 0, sector, &buffer), Err(answer));
     }
 }
 
@@ -340,8 +350,8 @@ fn a_row_of_sectors(layout: Layout) {
     assert_eq!(cut, Err(Answer::BadSector));
     assert_eq!(opened.write_sector(9, &[98; 512]), Err(Answer::SectorBusy), "the lane is left busy");
     assert_eq!(opened.write_sector_by_steps(10, &[98; 511], |_| Ok::<(), Answer>(())), Err(Answer::WrongBuffer));
-    assert_eq!(opened.handle().idle_lane(), Some(1), "a refused write leaves no lane busy");
-    let (arena, _) = opened.into_parts();
+    assert_eq!(opened.idle_lane(), Some(1), "a refused write leaves no lane busy");
+    let (arena, ..) = opened.into_parts();
     let opened = OpenArena::open_in(layout, arena).unwrap();
     assert_eq!(opened.mended(), 1);
     let mut buffer = [0; 512];

@@ -1,7 +1,7 @@
 //! The command btt.
 mod support;
 
-use btt::{Geometry, Identifiers, Layout, MAX_BLOCKS};
+use btt::{Geometry, Identifiers, Lane, Layout, MAX_BLOCKS, MAX_LANES};
 use plain::{put_word, seal};
 use std::fs;
 use std::os::unix::fs::symlink;
@@ -77,9 +77,8 @@ fn figures_of_which_nothing_is_made_are_told() {
         ("--bytes 16M --size 0", "refused 3: there are no sectors of 0 bytes, but of 512, 520, 528, 4096, 4104\n"),
         ("--bytes 1K --size 576", "refused 3: there are no sectors of 576 bytes, but of 512, 520, 528, 4096, 4104\n"),
         ("--sectors 60 --size 4160", "refused 3: there are no sectors of 4160 bytes, but of 512, 520, 528, 4096, 4104\n"),
-        ("--bytes 16M --lanes 0", "refused 3: a figure is forbidden: sectors are of 512, 520, 528, 4,096 or 4,104 bytes, "),
-        ("--bytes 1K --lanes 17", "refused 3: a figure is forbidden: "),
-        ("--bytes 1M --lanes 17 --size 520", "refused 3: a figure is forbidden: "),
+        ("--bytes 16M --lanes 0", "refused 3: an arena has 1 to 256 lanes, not 0\n"),
+        ("--sectors 3 --lanes 4", "refused 3: a figure is forbidden: sectors are of 512, 520, 528, 4,096 or 4,104 bytes, "),
     ] {
         let (status, out, found) = place.refused(&format!("make other {options}"), &[]);
         assert_eq!((status, out.as_str()), (1, ""), "{options}");
@@ -159,7 +158,7 @@ fn making_is_refused_and_leaves_no_file() {
     for (line, number) in [
         ("make arena --size 500 --sectors 60 --lanes 4", 3),
         ("make arena --size 512 --sectors 3 --lanes 4", 3),
-        ("make arena --size 512 --sectors 60 --lanes 17", 3),
+        ("make arena --size 512 --sectors 300 --lanes 257", 3),
         ("make arena --size 512 --sectors 4000000000 --lanes 4", 1),
         ("make arena --size 512 --sectors 60 --lanes 4 --id 00", 10),
     ] {
@@ -212,7 +211,8 @@ fn a_report_is_that_of_the_program() {
 
 /// The report by the plain program.
 fn report(arena: &[u8], layout: u32) -> (u32, String) {
-    let opened = plain::open(&mut arena.to_vec(), &mut [0; MAX_BLOCKS], layout);
+    let mut table = [Lane::default(); MAX_LANES];
+    let opened = plain::open(&mut arena.to_vec(), &mut [0; MAX_BLOCKS], layout, &mut table);
     let number = number(&opened);
     let Ok(opened) = opened else {
         return (number, format!("refused {number}\n"));
@@ -220,7 +220,7 @@ fn report(arena: &[u8], layout: u32) -> (u32, String) {
     let handle = opened.handle;
     let mut text =
         format!("sector bytes {}\nsectors {}\nlanes {}\nmended {}\n", handle.size, handle.sectors, handle.lanes, opened.mended);
-    for (lane, record) in handle.lane[..handle.lanes as usize].iter().enumerate() {
+    for (lane, record) in table[..handle.lanes as usize].iter().enumerate() {
         text += &format!("lane {lane} free {} next {}\n", record.block, record.sequence);
     }
     (0, text + "opened\n")
@@ -246,8 +246,9 @@ fn sectors_are_read_and_written() {
             let bytes = chance.bytes(size);
             assert!(place.done(&format!("write arena {sector} {told}"), &bytes).is_empty());
             assert!(place.done(&format!("read arena {sector} {told}"), &[]) == bytes);
-            let mut handle = plain::open(&mut expected, &mut [0; 128], layout).unwrap().handle;
-            plain::write(&mut expected, &mut handle, 0, sector, &bytes).unwrap();
+            let mut table = [Lane::default(); 4];
+            let handle = plain::open(&mut expected, &mut [0; 128], layout, &mut table).unwrap().handle;
+            plain::write(&mut expected, &handle, &mut table, 0, sector, &bytes).unwrap();
             assert!(fs::read(place.path("arena")).unwrap() == expected, "the file has the stores of a write on lane 0");
         }
         for length in [size - 1, size + 1, size.next_multiple_of(64).max(size + 1)] {
@@ -300,10 +301,10 @@ fn refused_reads_and_writes_change_nothing() {
 #[test]
 fn a_sloppy_arena_is_refused_and_left() {
     let place = Place::new("sloppy");
-    let mut arena = made(GEOMETRY);
-    let mut handle = plain::open(&mut arena, &mut [0; 64], 16).unwrap().handle;
-    plain::start(&arena, &mut handle, 2, 11).unwrap();
-    (0..132).for_each(|_| plain::step(&mut arena, &mut handle, 2, &[7; 512]).unwrap());
+    let (mut arena, mut table) = (made(GEOMETRY), [Lane::default(); 4]);
+    let handle = plain::open(&mut arena, &mut [0; 64], 16, &mut table).unwrap().handle;
+    plain::start(&arena, &handle, &mut table, 2, 11).unwrap();
+    (0..132).for_each(|_| plain::step(&mut arena, &handle, &mut table, 2, &[7; 512]).unwrap());
     fs::write(place.path("log"), []).unwrap();
     for (at, value) in [(36_864, 1), (36_864 + 4 * 59, 59), (40_960 + 32, 1), (40_960 + 252, 1 << 31)] {
         let mut sloppy = arena.clone();
@@ -329,11 +330,11 @@ fn a_pending_lane_is_mended_in_the_file_only_by_a_write() {
     let place = Place::new("pending");
     for layout in LAYOUTS {
         let arena_in = format!("arena --layout {layout}");
-        let mut arena = made(GEOMETRY);
-        let mut handle = plain::open(&mut arena, &mut [0; 64], layout).unwrap().handle;
+        let (mut arena, mut table) = (made(GEOMETRY), [Lane::default(); 4]);
+        let handle = plain::open(&mut arena, &mut [0; 64], layout, &mut table).unwrap().handle;
         for (lane, sector) in [(2, 11), (3, 12)] {
-            plain::start(&arena, &mut handle, lane, sector).unwrap();
-            (0..132).for_each(|_| plain::step(&mut arena, &mut handle, lane, &[lane as u8; 512]).unwrap());
+            plain::start(&arena, &handle, &mut table, lane, sector).unwrap();
+            (0..132).for_each(|_| plain::step(&mut arena, &handle, &mut table, lane, &[lane as u8; 512]).unwrap());
         }
         fs::write(place.path("arena"), &arena[..]).unwrap();
         assert!(place.done(&format!("read {arena_in} 11"), &[]) == [2; 512]);
@@ -341,8 +342,8 @@ fn a_pending_lane_is_mended_in_the_file_only_by_a_write() {
         assert!(String::from_utf8(place.done(&format!("dump {arena_in}"), &[])).unwrap().contains("\nmended 2\n"));
         assert!(fs::read(place.path("arena")).unwrap() == arena[..]);
         place.done(&format!("write {arena_in} 12"), &[9; 512]);
-        let mut handle = plain::open(&mut arena, &mut [0; 64], layout).unwrap().handle;
-        plain::write(&mut arena, &mut handle, 0, 12, &[9; 512]).unwrap();
+        let handle = plain::open(&mut arena, &mut [0; 64], layout, &mut table).unwrap().handle;
+        plain::write(&mut arena, &handle, &mut table, 0, 12, &[9; 512]).unwrap();
         assert!(fs::read(place.path("arena")).unwrap() == arena[..]);
     }
 }

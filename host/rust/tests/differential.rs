@@ -4,20 +4,15 @@ mod support;
 use btt::Geometry;
 use support::both::Both;
 use support::chance::Chance;
-use support::{arenas, other, pending, LAYOUTS, NO_LAYOUTS, NO_SIZES, SIZES};
+use support::{arenas, other, pending, LAYOUTS, NO_LAYOUTS, NO_SIZES, ROOM, SIZES};
 
 /// Opens an arena in a layout, by openings that are cut at every place too, and reads and writes it if it opens. Gives opening's answer.
 fn tried(chance: &mut Chance, arena: &[u8], layout: u32) -> u32 {
-    let mut both = Both::new(arena);
+    let (blocks, lanes) = support::figures(arena).map_or((0, 0), |figures| (figures.blocks, figures.lanes));
+    let work = about(chance, blocks.min(40_000) as usize);
+    let work = chance.bytes(work);
+    let mut both = Both::new(arena).with_records(about(chance, lanes.min(300) as usize));
     both.info_block();
-    let blocks = support::figures(arena).map_or(0, |figures| figures.blocks.min(40_000) as usize);
-    let room = match chance.below(12) {
-        0 => blocks.saturating_sub(1),
-        1 => 0,
-        2 => blocks + 100,
-        _ => blocks,
-    };
-    let work = chance.bytes(room);
     none_and_other(chance, &mut both, &work, layout);
     let mut opened = both.clone();
     let number = opened.open(layout, &work);
@@ -28,10 +23,21 @@ fn tried(chance: &mut Chance, arena: &[u8], layout: u32) -> u32 {
     }
     assert_eq!(cut.open(layout, &work), number);
     if number == 0 {
-        assert!(cut.arena == opened.arena && cut.handle == opened.handle, "cut openings leave no trace");
+        let same = cut.arena == opened.arena && cut.handle == opened.handle && cut.table == opened.table;
+        assert!(same, "cut openings leave no trace");
         used(chance, &mut opened);
     }
     number
+}
+
+/// A number of bytes or records where so many are needed: now and then too few, or more than enough.
+fn about(chance: &mut Chance, needed: usize) -> usize {
+    match chance.below(20) {
+        0 => needed.saturating_sub(1),
+        1 => 0,
+        2..5 => needed + 100,
+        _ => needed,
+    }
 }
 
 /// Openings in no layout, which are refused before all else, and a cut one in the other layout that stores nothing.
@@ -64,45 +70,48 @@ fn used(chance: &mut Chance, both: &mut Both) {
 #[test]
 fn valid_arenas_open() {
     let mut chance = Chance::new(11);
-    let (mut mended, mut sizes) = (0, [0; 5]);
+    let (mut mended, mut sizes, mut answers, mut lanes) = (0, [0; 5], [0; 22], 0);
     for _ in 0..3000 {
         let layout = arenas::layout(&mut chance);
         let arena = arenas::valid(&mut chance, layout);
         let number = tried(&mut chance, &arena, layout);
-        assert!(number == 0 || number == 5);
+        answers[number as usize] += 1;
         mended += pending(&arena, layout).unwrap();
-        let size = support::figures(&arena).map(|figures| figures.size);
-        sizes[SIZES.into_iter().position(|known| Some(known) == size).unwrap()] += 1;
+        let figures = support::figures(&arena).unwrap();
+        sizes[SIZES.into_iter().position(|known| known == figures.size).unwrap()] += 1;
+        lanes = lanes.max(figures.lanes);
     }
-    assert!(mended > 1000, "lanes were pending: {mended}");
+    assert!(mended > 1000 && lanes > 250, "lanes were pending: {mended}, and many at once: {lanes}");
     assert!(sizes.into_iter().all(|count| count > 200), "every size came: {sizes:?}");
+    assert!([0, 5, 21].into_iter().all(|number| answers[number] > 100), "{answers:?}");
+    assert_eq!(answers[0] + answers[5] + answers[21], 3000);
 }
 
 #[test]
 fn damaged_arenas_are_answered_alike() {
     let mut chance = Chance::new(12);
-    let mut answers = [0; 19];
+    let mut answers = [0; 22];
     for _ in 0..12_000 {
         let layout = arenas::layout(&mut chance);
         let mut arena = arenas::valid(&mut chance, layout);
         arenas::damage(&mut chance, &mut arena, layout);
         answers[tried(&mut chance, &arena, layout) as usize] += 1;
     }
-    assert!((0..=8).chain([18]).all(|number| answers[number] > 10), "every answer came: {answers:?}");
+    assert!((0..=8).chain([18, 21]).all(|number| answers[number] > 10), "every answer came: {answers:?}");
 }
 
 /// Told the other layout, an arena whose older halves are any bytes does not open: a lane is lost, or that half is padding.
 #[test]
 fn arenas_of_the_other_layout_are_refused_alike() {
     let mut chance = Chance::new(16);
-    let mut answers = [0; 19];
+    let mut answers = [0; 22];
     for _ in 0..2000 {
         let layout = arenas::layout(&mut chance);
         let arena = arenas::valid(&mut chance, layout);
         answers[tried(&mut chance, &arena, other(layout)) as usize] += 1;
     }
-    assert!([5, 6, 18].into_iter().all(|number| answers[number] > 10), "{answers:?}");
-    assert_eq!(answers[5] + answers[6] + answers[18], 2000);
+    assert!([5, 6, 18, 21].into_iter().all(|number| answers[number] > 10), "{answers:?}");
+    assert_eq!(answers[5] + answers[6] + answers[18] + answers[21], 2000);
 }
 
 #[test]
@@ -125,7 +134,7 @@ fn long_arenas_are_answered_alike() {
         let arena = vec![0; length];
         assert_eq!(tried(&mut chance, &arena, 32), if length == 16_777_216 { 2 } else { 1 });
     }
-    for (size, sectors, lanes) in [(512, 2000, 16), (520, 1000, 16), (528, 1000, 16), (4096, 500, 3), (4104, 300, 3)] {
+    for (size, sectors, lanes) in [(512, 2000, 256), (520, 1000, 16), (528, 1000, 255), (4096, 500, 3), (4104, 300, 256)] {
         let geometry = Geometry { size, sectors, lanes };
         let mut both = Both::new(&chance.bytes(geometry.made_length().unwrap() as usize));
         assert_eq!(both.make(geometry, &[1; 16], &[2; 16]), 0);
@@ -144,7 +153,7 @@ fn making_is_answered_alike() {
     let mut answers = [0; 11];
     for _ in 0..3000 {
         let size = if chance.once_in(3) { chance.pick(&NO_SIZES) } else { chance.pick(&SIZES) };
-        let lanes = chance.pick(&[0, 1, 2, 3, 8, 15, 16, 17, u32::MAX]);
+        let lanes = chance.pick(&[0, 1, 2, 3, 8, 16, 17, 48, 255, 256, 257, u32::MAX]);
         let sectors = match chance.below(8) {
             0 => chance.word(),
             1 => u32::MAX - chance.below(20) as u32,
@@ -162,7 +171,7 @@ fn making_is_answered_alike() {
         let number = both.make(geometry, &own, &parent);
         answers[number as usize] += 1;
         assert!(geometry.made_length().is_none_or(|length| length == plain::made_figures(geometry).length));
-        assert!(number != 0 || LAYOUTS.into_iter().all(|layout| both.open(layout, &[9; 128]) == 0));
+        assert!(number != 0 || LAYOUTS.into_iter().all(|layout| both.open(layout, &[9; ROOM]) == 0));
     }
     assert!([0, 1, 3, 10].into_iter().all(|number| answers[number] > 20), "{answers:?}");
 }

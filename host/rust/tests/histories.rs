@@ -1,11 +1,12 @@
-//! Random histories of calls with power cuts, for every sector size and in both layouts, against the plain program and against a plain
-//! row of sectors.
+//! Random histories of calls with power cuts, for every sector size, in both layouts and with up to 256 lanes, against the plain program
+//! and against a plain row of sectors.
 mod support;
 
+use btt::{Geometry, Layout};
 use std::collections::BTreeSet;
 use support::both::Both;
 use support::chance::Chance;
-use support::{arenas, pending, NO_LAYOUTS, SIZES};
+use support::{arenas, made, pending, rubbish, NO_LAYOUTS, ROOM, SIZES};
 
 /// A write in flight: its lane, its sector, its bytes, and how many of its stores are made.
 #[derive(Clone)]
@@ -31,8 +32,13 @@ impl History {
     /// Begins with an arena that is valid in a layout of its own.
     fn new(chance: &mut Chance) -> History {
         let layout = arenas::layout(chance);
-        let mut both = Both::new(&arenas::valid(chance, layout));
-        assert_eq!(both.open(layout, &[0; 128]), 0);
+        History::on(&arenas::valid(chance, layout), layout)
+    }
+
+    /// Begins with an arena that is valid in a layout.
+    fn on(arena: &[u8], layout: u32) -> History {
+        let mut both = Both::new(arena);
+        assert_eq!(both.open(layout, &[0; ROOM]), 0);
         let row = (0..both.handle.sectors).map(|sector| read(&both, sector)).collect();
         History { both, row, flight: Vec::new() }
     }
@@ -73,20 +79,25 @@ impl History {
         }
     }
 
-    /// The power goes: the handle is lost but for its layout, and opening finishes the writes that lack only their map word.
+    /// The power goes: handle and table are lost but for the layout, and opening finishes the writes that lack only their map word.
     fn cut(&mut self, chance: &mut Chance) {
-        let (steps, layout) = (self.both.handle.steps(), self.both.handle.layout);
+        let (steps, layout, lanes) = (self.both.handle.steps(), self.both.handle.layout, self.both.handle.lanes as usize);
         for _ in 0..chance.below(3) {
-            assert_eq!(self.both.cut_open(layout, &chance.bytes(128), chance.below(3) as u32), 0);
+            assert_eq!(self.both.cut_open(layout, &chance.bytes(ROOM), chance.below(3) as u32), 0);
         }
         if chance.once_in(4) {
             assert_eq!(self.both.cut_open(layout, &[], 1), 5);
         }
         if chance.once_in(4) {
-            let (none, work) = (chance.pick(&NO_LAYOUTS), chance.bytes(128));
+            let mut short = self.both.with_table(rubbish(chance.below(lanes)));
+            assert_eq!((short.cut_open(layout, &[0; ROOM], 1), short.open(layout, &[0; ROOM])), (21, 21));
+        }
+        if chance.once_in(4) {
+            let (none, work) = (chance.pick(&NO_LAYOUTS), chance.bytes(ROOM));
             assert_eq!((self.both.cut_open(none, &work, chance.below(3) as u32), self.both.open(none, &work)), (16, 16));
         }
-        assert_eq!(self.both.open(layout, &chance.bytes(128)), 0);
+        self.both.table = rubbish(lanes + chance.below(3));
+        assert_eq!(self.both.open(layout, &chance.bytes(ROOM)), 0);
         for write in self.flight.drain(..) {
             if write.tally == steps - 1 {
                 self.row[write.sector as usize] = (0, write.bytes);
@@ -143,8 +154,9 @@ fn refused(chance: &mut Chance, history: &mut History) {
     assert_ne!(both.step(chance.below(16) as u32, &short), 0);
     assert_ne!(both.write(chance.below(16) as u32, chance.below(40) as u32, &short), 0);
     assert_ne!(both.read(chance.below(40) as u32, &mut short.clone()), 0);
-    assert_eq!(both.start(0, handle.sectors), if handle.lane[0].busy == 1 { 12 } else { 9 });
-    assert!(both.arena == before.arena && both.handle == handle);
+    assert_eq!(both.start(0, handle.sectors), if before.table[0].busy == 1 { 12 } else { 9 });
+    assert_eq!(both.with_records(chance.below(handle.lanes as usize)).every_call(0, 0, &short), [21; 6]);
+    assert!(both.arena == before.arena && both.table == before.table);
 }
 
 #[test]
@@ -182,7 +194,7 @@ fn a_cut_at_every_store_of_mixed_writes_tears_nothing() {
         while !history.flight.is_empty() {
             history.step(chance.below(history.flight.len()));
             cuts += 1;
-            if history.size() < 4096 || cuts % 16 == 0 || chance.once_in(16) {
+            if history.size() < 4096 && handle.lanes <= 16 || cuts % 16 == 0 || chance.once_in(16) {
                 let mut cut = history.clone();
                 cut.cut(&mut chance);
                 cut.check_all();
@@ -200,7 +212,37 @@ fn one_after_another(chance: &mut Chance, first: &History, mut writes: Vec<Write
     for write in writes {
         assert_eq!(both.write(write.lane, write.sector, &write.bytes), 0);
     }
-    assert!(both.arena == mixed.both.arena && both.handle == mixed.both.handle);
+    assert!(both.arena == mixed.both.arena && both.table == mixed.both.table);
+}
+
+/// Writes on all of 256 lanes at once, each stopped after a number of stores of its own: one opening finishes those that lack only their map
+/// word, and a cut one the first of them.
+#[test]
+fn a_cut_of_256_writes_in_flight_tears_nothing() {
+    let mut chance = Chance::new(24);
+    for layout in Layout::ALL.map(Layout::bytes) {
+        let mut history = History::on(&made(Geometry { size: 512, sectors: 270, lanes: 256 }), layout);
+        let mut sectors: Vec<u32> = (0..270).collect();
+        chance.shuffle(&mut sectors);
+        for (lane, sector) in (0..256).zip(sectors) {
+            let bytes = chance.bytes(512);
+            history.start(lane, sector, bytes);
+        }
+        history.start(256, 0, vec![1; 512]);
+        for which in (0..256).rev() {
+            let stores = chance.pick(&[0, 1, 127, 128, 129, 130, 131, 132, 132, 132, 133]);
+            (0..stores).for_each(|_| history.step(which));
+        }
+        let lacking = history.flight.iter().filter(|write| write.tally == 132).count() as u32;
+        assert!(lacking > 40 && pending(&history.both.arena, layout) == Ok(lacking));
+        let mut cut = history.clone();
+        assert_eq!(cut.both.cut_open(layout, &[0; ROOM], lacking - 1), 0);
+        assert_eq!(pending(&cut.both.arena, layout), Ok(1));
+        for mut history in [cut, history] {
+            history.cut(&mut chance);
+            history.check_all();
+        }
+    }
 }
 
 /// Cuts of an opening that mends several lanes, at each of its stores and again and again, end as one opening does.
@@ -212,17 +254,17 @@ fn cut_openings_end_as_one_opening() {
         let layout = arenas::layout(&mut chance);
         let arena = arenas::valid(&mut chance, layout);
         let mut whole = Both::new(&arena);
-        assert_eq!(whole.open(layout, &[0; 128]), 0);
+        assert_eq!(whole.open(layout, &[0; ROOM]), 0);
         let found = pending(&arena, layout).unwrap();
         seen = seen.max(found);
         for k in 0..=found {
             let mut cut = Both::new(&arena);
-            cut.cut_open(layout, &[0; 128], k);
+            cut.cut_open(layout, &[0; ROOM], k);
             assert_eq!(pending(&cut.arena, layout), Ok(found - k));
-            cut.cut_open(layout, &[0; 128], chance.below(3) as u32);
-            cut.open(layout, &[0; 128]);
-            assert!(cut.arena == whole.arena && cut.handle == whole.handle);
+            cut.cut_open(layout, &[0; ROOM], chance.below(3) as u32);
+            cut.open(layout, &[0; ROOM]);
+            assert!(cut.arena == whole.arena && cut.handle == whole.handle && cut.table == whole.table);
         }
     }
-    assert!(seen > 5);
+    assert!(seen > 20);
 }

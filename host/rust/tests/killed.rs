@@ -1,7 +1,7 @@
 //! The command killed in the middle of writing: the sector is old or new, and the file opens.
 mod support;
 
-use btt::{Layout, MAX_BLOCKS};
+use btt::{Lane, Layout, MAX_BLOCKS};
 use std::fs;
 use std::thread::sleep;
 use std::time::{Duration, Instant};
@@ -13,11 +13,11 @@ const SECTORS: u32 = 20;
 
 /// What every sector of an arena reads, opened in memory.
 fn row(arena: &[u8], layout: u32) -> Vec<Vec<u8>> {
-    let mut arena = arena.to_vec();
-    let handle = plain::open(&mut arena, &mut [0; MAX_BLOCKS], layout).expect("the file opens").handle;
+    let (mut arena, mut table) = (arena.to_vec(), [Lane::default(); 3]);
+    let handle = plain::open(&mut arena, &mut [0; MAX_BLOCKS], layout, &mut table).expect("the file opens").handle;
     let read = |sector| {
         let mut buffer = vec![0; handle.sector_size()];
-        plain::read(&arena, &handle, sector, &mut buffer).unwrap();
+        plain::read(&arena, &handle, &table, sector, &mut buffer).unwrap();
         buffer
     };
     (0..SECTORS).map(read).collect()

@@ -1,15 +1,26 @@
-//! The longest arenas, of 16 MiB, for every sector size, in one layout and in the other.
+//! The longest arenas, of 16 MiB, for every sector size, with four lanes and with 256, in one layout and in the other.
 mod support;
 
 use btt::{Answer, Arena, Geometry, Layout, OpenArena, MAX_ARENA};
 use support::both::Both;
 use support::chance::Chance;
 
-/// The bytes of a sector, and the most sectors that 16 MiB hold with four lanes.
-const LONGEST: [(u32, u32); 5] = [(512, 32_484), (520, 28_895), (528, 28_895), (4096, 4085), (4104, 4022)];
+/// The lanes, the bytes of a sector, and the most sectors that 16 MiB then hold.
+const LONGEST: [(u32, u32, u32); 10] = [
+    (4, 512, 32_484),
+    (4, 520, 28_895),
+    (4, 528, 28_895),
+    (4, 4096, 4085),
+    (4, 4104, 4022),
+    (256, 512, 32_208),
+    (256, 520, 28_629),
+    (256, 528, 28_629),
+    (256, 4096, 3830),
+    (256, 4104, 3767),
+];
 
-fn longest() -> [Geometry; 5] {
-    LONGEST.map(|(size, sectors)| Geometry { size, sectors, lanes: 4 })
+fn longest() -> [Geometry; 10] {
+    LONGEST.map(|(lanes, size, sectors)| Geometry { size, sectors, lanes })
 }
 
 #[test]
@@ -27,11 +38,12 @@ fn written_and_cut(geometry: Geometry, layout: Layout) {
     let work = vec![7; (sectors + lanes) as usize];
     assert_eq!(both.make(geometry, &[1; 16], &[2; 16]), 0);
     assert_eq!(both.open(layout.bytes(), &work[1..]), 5);
+    assert_eq!(both.with_records(lanes as usize - 1).open(layout.bytes(), &work), 21);
     assert_eq!(both.open(layout.bytes(), &work), 0);
     let mut numbers: Vec<u32> = (0..sectors).collect();
     chance.shuffle(&mut numbers);
     for (i, sector) in numbers[..16].iter().enumerate() {
-        assert_eq!(both.write(i as u32 % 4, *sector, &chance.bytes(size as usize)), 0);
+        assert_eq!(both.write(lanes - 1 - i as u32 % 4, *sector, &chance.bytes(size as usize)), 0);
     }
     let last = chance.bytes(size as usize);
     assert_eq!(both.write(3, sectors - 1, &last), 0);
@@ -51,10 +63,10 @@ fn cut_at_the_sequence_word(chance: &mut Chance, both: &Both, layout: Layout) {
     for (kept, mended) in [(steps - 2, 0), (steps - 1, 1), (steps, 0)] {
         let mut memory = both.arena.clone();
         let mut arena = Arena::new(&mut memory).unwrap();
-        let mut handle = both.handle;
-        arena.start(&mut handle, 1, sector).unwrap();
+        let (handle, mut table, lane) = (both.handle, both.table.clone(), both.handle.lanes - 1);
+        arena.start(&handle, &mut table, lane, sector).unwrap();
         for _ in 0..kept {
-            arena.step(&mut handle, 1, &new).unwrap();
+            arena.step(&handle, &mut table, lane, &new).unwrap();
         }
         let mut cut = Both::new(arena.bytes());
         assert_eq!(cut.open(layout.bytes(), &vec![0; both.handle.blocks as usize]), 0);
@@ -64,6 +76,7 @@ fn cut_at_the_sequence_word(chance: &mut Chance, both: &Both, layout: Layout) {
         assert_eq!(opened.read_sector(sector, &mut found), Ok(()));
         assert!(found == if kept < steps - 1 { &old[..] } else { &new[..] });
         assert!(opened.arena().bytes() == &cut.arena[..] && *opened.handle() == cut.handle);
+        assert!(opened.table() == &cut.table[..opened.handle().lanes as usize]);
     }
 }
 

@@ -2,7 +2,7 @@
 //! becomes of an arena that is opened in the one and in the other, by the command too.
 mod support;
 
-use btt::{AlignedBytes, Answer, Arena, Layout, OpenArena};
+use btt::{AlignedBytes, Answer, Arena, Lane, Layout, OpenArena};
 use plain::{put_word, seal};
 use std::fs;
 use support::both::Both;
@@ -82,12 +82,12 @@ fn every_number(both: &Both, room: usize, number: u32) {
 #[test]
 fn a_made_arena_opens_in_both() {
     let mut both = Both::new(&made(GEOMETRY));
-    let handles = LAYOUTS.map(|layout| {
+    let [near, far] = LAYOUTS.map(|layout| {
         assert_eq!(both.open(layout, &[0; 64]), 0);
-        both.handle
+        (both.handle, both.table.clone())
     });
-    assert_eq!(handles.map(|handle| handle.layout), [16, 32]);
-    assert_eq!(btt::Handle { layout: 32, ..handles[0] }, handles[1]);
+    assert_eq!([near.0.layout, far.0.layout], [16, 32]);
+    assert_eq!((btt::Handle { layout: 32, ..near.0 }, near.1), far);
 }
 
 /// A write on a fresh lane logs its second half: from its first word there that is not 0 on, the other layout is refused.
@@ -131,19 +131,20 @@ fn the_usual_layout_is_taken_where_none_is_told() {
     fn fresh() -> AlignedBytes {
         let mut memory = made(GEOMETRY);
         let mut arena = Arena::new(&mut memory).unwrap();
-        let mut handle = arena.open(&mut [0; 64]).unwrap().handle;
+        let mut table = [Lane::default(); 4];
+        let handle = arena.open(&mut [0; 64], &mut table).unwrap().handle;
         assert_eq!(handle.layout, 16);
-        arena.start(&mut handle, 1, 9).unwrap();
-        (0..132).for_each(|_| arena.step(&mut handle, 1, &[4; 512]).unwrap());
+        arena.start(&handle, &mut table, 1, 9).unwrap();
+        (0..132).for_each(|_| arena.step(&handle, &mut table, 1, &[4; 512]).unwrap());
         memory
     }
-    let (mut memory, mut told) = (fresh(), fresh());
+    let (mut memory, mut told, mut tables) = (fresh(), fresh(), [[Lane::default(); 4]; 2]);
     let (mut arena, mut same) = (Arena::new(&mut memory).unwrap(), Arena::new(&mut told).unwrap());
-    assert_eq!(arena.cut_open_in(Layout::Far, &mut [0; 64], 1), Err(Answer::Sloppy));
-    assert_eq!(arena.cut_open(&mut [0; 64], 0), Ok(1));
-    assert_eq!(same.cut_open_in(Layout::Near, &mut [0; 64], 0), Ok(1));
-    assert_eq!(arena.open(&mut [0; 64]), same.open_in(Layout::Near, &mut [0; 64]));
-    assert_eq!(arena.bytes(), same.bytes());
+    assert_eq!(arena.cut_open_in(Layout::Far, &mut [0; 64], &tables[0], 1), Err(Answer::Sloppy));
+    assert_eq!(arena.cut_open(&mut [0; 64], &tables[0], 0), Ok(1));
+    assert_eq!(same.cut_open_in(Layout::Near, &mut [0; 64], &tables[1], 0), Ok(1));
+    assert_eq!(arena.open(&mut [0; 64], &mut tables[0]), same.open_in(Layout::Near, &mut [0; 64], &mut tables[1]));
+    assert_eq!((arena.bytes(), tables[0]), (same.bytes(), tables[1]));
     let opened = OpenArena::open(arena).unwrap();
     assert_eq!((opened.layout(), opened.handle().layout), (Layout::Near, 16));
     assert_eq!(OpenArena::open_in(Layout::Near, same).unwrap().handle(), opened.handle());

@@ -9,7 +9,7 @@ use support::chance::Chance;
 use support::logs::{cut, damage, start, step, well_formed, write};
 use support::place::Place;
 use support::raw::Raw;
-use support::{arenas, made, GEOMETRY, SIZES};
+use support::{arenas, made, GEOMETRY, ROOM, SIZES};
 
 /// A replay on the arena of the worked cases, and the arena after it.
 fn replayed(log: &[u8]) -> (Replay, Both) {
@@ -26,7 +26,7 @@ fn replayed_on(geometry: Geometry, log: &[u8]) -> (Replay, Both) {
 #[test]
 fn logs_are_answered_alike() {
     let mut chance = Chance::new(61);
-    let (mut answers, mut stops) = ([0; 21], 0);
+    let (mut answers, mut stops) = ([0; 22], 0);
     for _ in 0..600 {
         let arena = arenas::valid(&mut chance, 16);
         let figures = support::figures(&arena).unwrap();
@@ -53,7 +53,7 @@ fn damaged_arenas_are_refused_alike() {
     for _ in 0..4000 {
         let mut arena = arenas::valid(&mut chance, 16);
         arenas::damage(&mut chance, &mut arena, 16);
-        let replay = Both::new(&arena).replay(&log, &chance.bytes(128), &chance.bytes(200));
+        let replay = Both::new(&arena).replay(&log, &chance.bytes(ROOM), &chance.bytes(200));
         answers[support::number(&replay) as usize] += 1;
     }
     assert!([0, 1, 2, 3, 4, 6, 7, 8, 18].into_iter().all(|number| answers[number] > 5), "every answer came: {answers:?}");
@@ -145,6 +145,17 @@ fn the_longest_log_runs_and_a_longer_one_does_not() {
     let longer = both.replay(&[log, vec![0]].concat(), &[0; 64], &[]);
     assert_eq!(longer, Ok(Replay { answers: vec![], stopped: Some(0) }));
     assert!(both.arena != pending, "the opening's mending stays");
+}
+
+/// A replay's own table has room for every lane: lane 255 writes, lane 256 is not there.
+#[test]
+fn a_replay_has_a_record_for_each_of_256_lanes() {
+    let mut both = Both::new(&made(Geometry { size: 512, sectors: 256, lanes: 256 }));
+    let log = [start(256, 7), write(255, 7, 132), start(254, 7), step(256), cut(), step(255)].concat();
+    let replay = both.replay(&log, &[9; 512], &[9; 300]).unwrap();
+    let numbers: Vec<u32> = replay.answers.iter().map(support::number).collect();
+    assert_eq!(numbers, [&[11][..], &[0; 133], &[13, 11, 0, 14]].concat());
+    assert_eq!((replay.stopped, word(&both.arena, 266_268)), (None, 0xC000_01FF), "the cut's opening mends the map word");
 }
 
 #[test]

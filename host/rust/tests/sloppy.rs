@@ -6,7 +6,7 @@ use btt::{AlignedBytes, MAX_SECTOR};
 use plain::{put_word, seal, word};
 use support::both::Both;
 use support::chance::Chance;
-use support::{arenas, made, number, raw, GEOMETRY, LAYOUTS};
+use support::{arenas, made, number, raw, rubbish, GEOMETRY, LAYOUTS, ROOM};
 
 const MAP: usize = 36_864;
 const FLOG: usize = 40_960;
@@ -24,8 +24,8 @@ fn sloppy_words(layout: u32) -> [(usize, u32); 4] {
 fn opened(before: &AlignedBytes, layout: u32, room: usize, cut: Option<u32>) -> u32 {
     let (mut arena, mut work) = (before.clone(), vec![7; room]);
     let number = match cut {
-        None => number(&raw::open(&mut arena, &mut work, layout)),
-        Some(k) => number(&raw::cut_open(&mut arena, &mut work, layout, k)),
+        None => number(&raw::open(&mut arena, &mut work, layout, &mut rubbish(4))),
+        Some(k) => number(&raw::cut_open(&mut arena, &mut work, layout, &rubbish(4), k)),
     };
     assert!(number == 0 || arena == *before, "a refusal leaves the arena");
     let (cleared, kept) = work.split_at(if (1..6).contains(&number) { 0 } else { 64 });
@@ -150,7 +150,7 @@ fn words_of_their_own(layout: u32) {
     let (before, mut buffer) = (both.clone(), [3; 512]);
     assert_eq!((both.read(5, &mut buffer), both.start(1, 5), both.write(1, 5, &buffer)), (18, 18, 18));
     assert_eq!((both.read(5, &mut buffer[1..]), both.write(1, 5, &[]), both.write(0, 5, &[])), (10, 10, 12));
-    assert!(both.arena == before.arena && both.handle == before.handle && buffer == [3; 512], "a refusal changes nothing");
+    assert!(both.arena == before.arena && both.table == before.table && buffer == [3; 512], "a refusal changes nothing");
     (1..133).for_each(|_| assert_eq!(both.step(0, &[8; 512]), 0, "a write in flight goes on"));
     assert_eq!((word(&both.arena, MAP + 4 * 7), both.read(7, &mut buffer), buffer), (0xC000_003C, 0, [8; 512]));
     assert_eq!(answered(&both.arena, layout, 70), 18);
@@ -160,7 +160,7 @@ fn words_of_their_own(layout: u32) {
 fn in_flight(chance: &mut Chance, buffer: &[u8]) -> Both {
     let layout = arenas::layout(chance);
     let mut both = Both::new(&arenas::valid(chance, layout));
-    assert_eq!(both.open(layout, &[0; 128]), 0);
+    assert_eq!(both.open(layout, &[0; ROOM]), 0);
     for lane in 0..both.handle.lanes {
         let sector = chance.below(both.handle.sectors as usize) as u32;
         if chance.once_in(2) && both.start(lane, sector) == 0 {
@@ -177,21 +177,22 @@ fn sloppy_places_of_opened_arenas_are_answered_alike() {
     let buffer = chance.bytes(MAX_SECTOR);
     for _ in 0..200 {
         let mut both = in_flight(&mut chance, &buffer);
-        let handle = both.handle;
+        let (handle, records) = (both.handle, both.handle.records(&both.table).to_vec());
+        let idle = handle.idle_lane(&records);
         let buffer = &buffer[..handle.sector_size()];
         let places: Vec<_> =
             (0..1 + chance.below(3)).map(|_| both.change(|arena| arenas::slop(&mut chance, arena, &handle))).collect();
-        assert_eq!((both.clone().reopen(&[7; 128]), both.clone().cut_open(handle.layout, &[7; 128], 1)), (18, 18));
+        assert_eq!((both.clone().reopen(&[7; ROOM]), both.clone().cut_open(handle.layout, &[7; ROOM], 1)), (18, 18));
         for sector in 0..handle.sectors {
             let sloppy = places.contains(&Some(sector));
-            let busy = handle.records().iter().any(|record| record.busy == 1 && record.sector == sector);
-            let found = both.every_call(handle.idle_lane().unwrap_or(0), sector, buffer).map(|number| number == 18);
-            let started = sloppy && !busy && handle.idle_lane().is_some();
+            let busy = records.iter().any(|record| record.busy == 1 && record.sector == sector);
+            let found = both.every_call(idle.unwrap_or(0), sector, buffer).map(|number| number == 18);
+            let started = sloppy && !busy && idle.is_some();
             assert_eq!(found, [sloppy, started, false, started, false, false]);
         }
-        for lane in (0..handle.lanes).filter(|lane| !handle.lane[*lane as usize].is_idle()) {
-            (handle.lane[lane as usize].made..handle.steps()).for_each(|_| assert_eq!(both.step(lane, buffer), 0));
-            assert_eq!(both.read(handle.lane[lane as usize].sector, &mut vec![1; buffer.len()]), 0);
+        for (lane, record) in (0..).zip(records).filter(|(_, record)| !record.is_idle()) {
+            (record.made..handle.steps()).for_each(|_| assert_eq!(both.step(lane, buffer), 0));
+            assert_eq!(both.read(record.sector, &mut vec![1; buffer.len()]), 0);
         }
     }
 }

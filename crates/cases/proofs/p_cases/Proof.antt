@@ -1,8 +1,8 @@
 -- `cases::p_cases` meets its contract: the values of cases 1 to 5 and the bytes of case 9, with what stands beside them, are computed but for the refused word of case 3, which is
--- exhibited, and cases 6 to 8 are proved in `Pending`.
+-- exhibited, cases 6 to 8 are proved in `Pending`, and the case of 256 lanes in `Lanes`.
 use mathlib.Core.Path.{refl}
 use mathlib.Core.Logic.{inl, inr}
-use mathlib.Core.List.{List, [], _∷_, _++_}
+use mathlib.Core.List.{List, _++_}
 use Prim.Native.Nat.{ℕ}
 use native.Mathlib.Omega.{arith}
 use lib.ListN.{replicate, length-replicate}
@@ -18,15 +18,14 @@ use Rattle.machine.specs.calls.Making.{makeNumber}
 use Rattle.machine.specs.calls.Writing.{storeAt}
 use Rattle.machine.proofs.exhibit.Run.{exhibited}
 use Rattle.cases.specs.Worked.{Worked, AllDue}
+use Rattle.cases.specs.Lanes.{case256}
 use Rattle.cases.specs.Pending.{case6, case7, case8}
 use Rattle.cases.specs.Table.{case1, case2, case3, case3-refused, case3-bits, case4, case4-turns, case5, case5-sizes, case9-sizes, case9-bytes, table}
+use Rattle.cases.proofs.Lanes.{case-256}
 use Rattle.cases.proofs.Pending.{cases-6-and-7, case-8}
+use Rattle.cases.proofs.Rows.{append}
 use Rattle.cases.proofs.p_cases.Statement.{statement}
 use Rattle.cases.proofs.p_cases.Tie as tie
-
-append : (xs : List Worked) (ys : List Worked) → AllDue xs → AllDue ys → AllDue (xs ++ ys)
-append [] ys p q = q
-append (x ∷ xs) ys p q = (p .0, append xs ys (p .1) q)
 
 -- cases 1 to 5 are computed, all but the refused word
 computed : AllDue (case1 ++ (case2 ++ (case3 ++ (case3-bits ++ (case4 ++ (case4-turns ++ case5))))))
@@ -61,6 +60,10 @@ plain = case1 ++ (case2 ++ (case3 ++ (case3-bits ++ (case4 ++ (case4-turns ++ ca
 abbrev pendings : List Worked
 pendings = case6 1 ++ (case6 0 ++ (case7 1 ++ (case7 0 ++ case8)))
 
+-- what stands after the case of 256 lanes
+abbrev refusals : List Worked
+refusals = case3-refused 16 ++ (case3-refused 32 ++ pendings)
+
 pendings-due : AllDue pendings
 unfolding newer successor
 pendings-due =
@@ -73,13 +76,14 @@ pendings-due =
 all-due : AllDue table
 unfolding table
 all-due =
-    append plain (case5-sizes ++ (case9-sizes ++ (case9-bytes 16 40976 ++ (case9-bytes 32 40992 ++ (case3-refused 16 ++ (case3-refused 32 ++ pendings)))))) computed
-    (append case5-sizes (case9-sizes ++ (case9-bytes 16 40976 ++ (case9-bytes 32 40992 ++ (case3-refused 16 ++ (case3-refused 32 ++ pendings))))) sized
-    (append case9-sizes (case9-bytes 16 40976 ++ (case9-bytes 32 40992 ++ (case3-refused 16 ++ (case3-refused 32 ++ pendings)))) stored-sized
-    (append (case9-bytes 16 40976) (case9-bytes 32 40992 ++ (case3-refused 16 ++ (case3-refused 32 ++ pendings))) (stored .0)
-    (append (case9-bytes 32 40992) (case3-refused 16 ++ (case3-refused 32 ++ pendings)) (stored .1)
+    append plain (case5-sizes ++ (case9-sizes ++ (case9-bytes 16 40976 ++ (case9-bytes 32 40992 ++ (case256 ++ refusals))))) computed
+    (append case5-sizes (case9-sizes ++ (case9-bytes 16 40976 ++ (case9-bytes 32 40992 ++ (case256 ++ refusals)))) sized
+    (append case9-sizes (case9-bytes 16 40976 ++ (case9-bytes 32 40992 ++ (case256 ++ refusals))) stored-sized
+    (append (case9-bytes 16 40976) (case9-bytes 32 40992 ++ (case256 ++ refusals)) (stored .0)
+    (append (case9-bytes 32 40992) (case256 ++ refusals) (stored .1)
+    (append case256 refusals case-256
     (append (case3-refused 16) (case3-refused 32 ++ pendings) (refused 16 (inl refl))
-    (append (case3-refused 32) pendings (refused 32 (inr refl)) pendings-due))))))
+    (append (case3-refused 32) pendings (refused 32 (inr refl)) pendings-due)))))))
 
 returns : tie.Need-returns
 returns c = all-due

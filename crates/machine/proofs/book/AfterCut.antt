@@ -15,7 +15,7 @@ use Rattle.machine.specs.declared.lane.Lane.{Lane}
 use Rattle.machine.specs.state.Handle.{Handle, laneAt}
 use Rattle.machine.specs.state.Lane.{idleLane, writeStores}
 use Rattle.machine.specs.state.Stores.{Store, putAll}
-use Rattle.machine.specs.calls.Opening.{figuresIn, layoutIn, foundLane, Opening, openOf, mends, pendingLanes}
+use Rattle.machine.specs.calls.Opening.{Room, figuresIn, layoutIn, foundLane, Opening, openOf, mends, pendingLanes}
 use Rattle.machine.specs.claims.Opening.{OneCut, CutsTold, CutsLeaveNoTrace}
 use Rattle.machine.specs.calls.Reading.{readOf}
 use Rattle.machine.specs.calls.History.{State}
@@ -28,6 +28,7 @@ use Rattle.machine.proofs.opening.Found.{settledLane, idle-ended, found
 use Rattle.machine.proofs.opening.Opens.{opened-distance, opened-figures, opened-lane, opened-idle}
 use Rattle.machine.proofs.invariant.Good.{good-number}
 use Rattle.machine.proofs.calls.Records.{idle-is}
+use Rattle.machine.proofs.calls.Lent.{opening-past}
 use Rattle.machine.proofs.invariant.Held.{Held, held-open, lanes-in, sectors-out}
 use Rattle.machine.proofs.invariant.Histories.{held-small}
 use Rattle.machine.proofs.opening.Settled.{each-once}
@@ -42,6 +43,7 @@ use Rattle.machine.proofs.book.Sim.{Sim}
 use Rattle.machine.proofs.book.LastWords.{lastOf, last-in, last-out, mends-last, pending-last}
 use Rattle.layout.specs.Place.{layoutOf}
 use Rattle.layout.specs.declared.Told.{Told}
+use Rattle.machine.specs.words.Valid.{RoomFor}
 
 module _ (τ : Told) where
   -- ---- the lanes
@@ -174,14 +176,14 @@ module _ (τ : Told) where
       same-figures : figuresIn (y .arena) ≡ figuresIn a
       same-figures = z .held .good .figures ∙ z .figures
 
-      inv : Inv (layoutIn τ a) (y .arena) (y .handle .lanes)
+      inv : Inv (layoutIn τ a) (y .arena) (y .handle .table)
       inv = rw same-figures at (held-inv τ (y .arena) (y .handle) (z .held))
 
       in-lane : (e : Entry) → List·Memᴰ e b → e .lane < (layoutIn τ a) .N
       in-lane e m = z .ok .each e m .lane-in
 
       same-stores : SameMembers (mends (layoutIn τ a) (y .arena) ((layoutIn τ a) .N)) (lastWords τ a b)
-      same-stores = mends-last τ a b (z .ok .differ) (y .arena) (y .handle .lanes) inv (z .lanes) in-lane
+      same-stores = mends-last τ a b (z .ok .differ) (y .arena) (y .handle .table) inv (z .lanes) in-lane
 
       -- those stores in any order
       mended-is : putAll (layoutIn τ a) (mends (layoutIn τ a) (y .arena) ((layoutIn τ a) .N)) (y .arena) ≡ putAll (layoutIn τ a) (lastWords τ a b) (y .arena)
@@ -194,12 +196,12 @@ module _ (τ : Told) where
           agree : Agree (kept τ a bytes c) → Agree (lastWords τ a b)
           agree f = unfold Agree in (λ st su m n e. f st su (member st m) (member su n) e)
 
-      module _ (h : Handle) (k : Held τ a h) (work : List ℕ) (room : (figuresIn a) .blocks ≤ length work) where
+      module _ (h : Handle) (k : Held τ a h) (work : Room) (room : RoomFor (figuresIn a) work) where
         abbrev o : Opening
         o = openOf τ (y .arena) work
 
         number : o .number ≡ 0
-        number = good-number τ (y .arena) (y .handle .distance) (y .handle .figures) (y .handle .lanes) (z .held .good) work (rw (z .figures) room)
+        number = good-number τ (y .arena) (y .handle .distance) (y .handle .figures) (y .handle .table) (z .held .good) work (rw (z .figures) room)
 
         opened-arena : o .arena ≡ putAll (layoutIn τ a) (lastWords τ a b) (y .arena)
         opened-arena = unfold openOf in (rw (number, same-figures) mended-is)
@@ -210,10 +212,10 @@ module _ (τ : Told) where
         held : Held τ (o .arena) (o .handle)
         held = held-open τ (y .arena) work (held-small τ y (z .held)) number
 
-        lane-found : (l : ℕ) → l < (layoutIn τ a) .N → laneAt (o .handle .lanes) l ≡ foundLane (layoutIn τ a) (y .arena) l
+        lane-found : (l : ℕ) → l < (layoutIn τ a) .N → laneAt (o .handle .table) l ≡ foundLane (layoutIn τ a) (y .arena) l
         lane-found l v = rw same-figures at (opened-lane τ (y .arena) work number l (rw same-figures v))
 
-        opened-inv : Inv (layoutIn τ a) (o .arena) (o .handle .lanes)
+        opened-inv : Inv (layoutIn τ a) (o .arena) (o .handle .table)
         opened-inv = rw (held .good .figures ∙ figures) at (held-inv τ _ _ held)
 
         -- the arena is that of the book with those writes finished
@@ -260,6 +262,7 @@ module _ (τ : Told) where
           layout = (opened-distance τ (y .arena) work number, sym (k .good .distance));
           figures = figures;
           idle = opened-idle τ (y .arena) work number;
+          past = λ l u. opening-past τ (y .arena) work l (rw same-figures u);
           moved = λ e m v. let u = stored-all e v in idle-is _ _ _ _ (lanes (e .lane) (z .ok .each e m .lane-in) ∙ then-at a b (z .ok .differ) e m
               ∙ rw (le-leb (writeStores (layoutIn τ a)) (e .tally + 1) u));
           unmoved = λ l u n.
@@ -273,13 +276,13 @@ module _ (τ : Told) where
           once = each-once (layoutIn τ a) _ _ (opened-inv .map-in) (λ l u. opened-inv .lane l u .block-in) (opened-inv .once);
           cuts = λ cuts told. record {
             number = no-trace cuts told .number ∙ number;
-            arena = no-trace cuts told .arena (λ e. omega (arith, number));
+            arena = no-trace cuts told .arena (λ e. omega (arith, number)) (λ e. omega (arith, number));
             handle = no-trace cuts told .handle;
           };
         }
           where
-            lanes : (l : ℕ) → l < (layoutIn τ a) .N → laneAt (o .handle .lanes) l ≡ laneThen τ a b l
-            lanes l v = lane-found l v ∙ lane-then a b (z .ok .differ) (y .arena) l (laneAt (y .handle .lanes) l) (inv .lane l v) (z .lanes l v)
+            lanes : (l : ℕ) → l < (layoutIn τ a) .N → laneAt (o .handle .table) l ≡ laneThen τ a b l
+            lanes l v = lane-found l v ∙ lane-then a b (z .ok .differ) (y .arena) l (laneAt (y .handle .table) l) (inv .lane l v) (z .lanes l v)
 
             pending-is : pendingLanes (layoutIn τ a) (y .arena) ((layoutIn τ a) .N) ≡ length (lastWords τ a b)
-            pending-is = pending-last τ a b (z .ok .differ) (y .arena) (y .handle .lanes) inv (z .lanes) in-lane
+            pending-is = pending-last τ a b (z .ok .differ) (y .arena) (y .handle .table) inv (z .lanes) in-lane

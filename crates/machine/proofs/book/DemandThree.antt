@@ -2,12 +2,11 @@
 -- of a book.
 use mathlib.Core.Path.{_≡_, sym, _∙_, ap₂}
 use mathlib.Core.List.{List, [], _++_, List·Memᴰ, List·Memᴰ·not-nil, Memᴰ·append-left, List·Permᴰ, Permᴰ·symm}
-use Prim.Native.Nat.{ℕ, _≤_}
+use Prim.Native.Nat.{ℕ}
 use mathlib.Core.Logic.{inr, ⊎-elim}
-use lib.ListN.{length}
 use Rattle.layout.specs.Place.{layoutOf}
 use Rattle.machine.specs.state.Lane.{writeStores}
-use Rattle.machine.specs.calls.Opening.{figuresIn, layoutIn}
+use Rattle.machine.specs.calls.Opening.{Room, figuresIn, layoutIn}
 use Rattle.machine.specs.calls.History.{Call, State, run, replies, SmallCalls, openedFrom}
 use Rattle.machine.specs.claims.DemandTwo.{AllIdle}
 use Rattle.machine.specs.models.Book.{Entry, bookAfter, bookReplies, kept}
@@ -37,13 +36,14 @@ use Rattle.machine.proofs.book.TakenApart.{ComesTo, apart-alike, lends-
 use Rattle.machine.proofs.book.OneByOne.{perm-in, perm-differ, one-by-one}
 use Rattle.layout.specs.Told.{alone}
 use Rattle.layout.specs.declared.Told.{Told}
+use Rattle.machine.specs.words.Valid.{RoomFor}
 
 module _ (τ : Told) where
   -- an arena that was opened, after any history
   ready-held : (x : State) → Ready τ x → HeldIn τ x
-  ready-held x r = rw (r .reached ∙ latest-state τ (r .history) (openedFrom τ (r .found) (r .work)) (r .harmless))
-      (held-events τ (openedFrom τ (r .found) (r .work)) (latestOf (r .history)) (r .small-history)
-      (held-open τ (r .found) (r .work) (r .small) (r .opens)))
+  ready-held x r = rw (r .reached ∙ latest-state τ (r .history) (openedFrom τ (r .found) (r .room)) (r .harmless))
+      (held-events τ (openedFrom τ (r .found) (r .room)) (latestOf (r .history)) (r .small-history)
+      (held-open τ (r .found) (r .room) (r .small) (r .opens)))
 
   module _ (x : State) (k : HeldIn τ x) (idle : AllIdle (x .handle)) (bytes : ℕ → List ℕ) where
     first : FirstArena τ (x .arena)
@@ -74,7 +74,7 @@ module _ (τ : Told) where
         let r = follow p f in
         record { answers = r .0; arena = λ stores s. r .1 .arena ∙ kept-order τ (x .arena) bytes first (bookAfter τ (x .arena) [] p) (r .1 .ok) stores s }
 
-    cut-anywhere : (p : List Call) → Fair p → (work : List ℕ) → (figuresIn (x .arena)) .blocks ≤ length work
+    cut-anywhere : (p : List Call) → Fair p → (work : Room) → RoomFor (figuresIn (x .arena)) work
         → AfterCut τ (x .arena) (x .handle) bytes ((run x p) .arena) (bookAfter τ (x .arena) [] p) work
     cut-anywhere p f work room =
         after-cut τ (x .arena) bytes first (bookAfter τ (x .arena) [] p) (run x p) (follow p f .1) (x .handle) k work room

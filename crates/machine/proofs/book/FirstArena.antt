@@ -1,19 +1,22 @@
 -- The arena with which a list begins, all lanes idle: each lane's record is what opening finds, mapped and free blocks are every block
 -- once, and opening it again changes nothing.
-use mathlib.Core.Path.{_≡_, refl, ap, _∙_}
-use mathlib.Core.List.{List}
+use mathlib.Core.Path.{_≡_, refl, ap, _∙_, subst}
+use mathlib.Core.List.{List, []}
 use mathlib.Core.Bool.{false}
 use Prim.Native.Nat.{ℕ, _*_, _≤_, _<_}
 use native.Mathlib.Omega.{arith}
-use lib.ListN.{length, replicate, length-replicate}
+use lib.ListN.{replicate, length-replicate, drop-of-length-le}
+use lib.Seq.{drop-nil}
 use Rattle.format.specs.Sequence.{successor}
 use Rattle.format.specs.MapWord.{badWord}
-use Rattle.layout.specs.Place.{Layout, LayoutOk}
+use Rattle.layout.specs.Place.{Layout, LayoutOk, layoutOf}
+use Rattle.layout.specs.declared.Figures.{Figures}
 use Rattle.machine.specs.declared.lane.Lane.{Lane}
 use Rattle.machine.specs.state.Handle.{Handle, laneAt}
-use Rattle.machine.specs.state.Lane.{idleLane, isBusy}
+use Rattle.machine.specs.state.Lane.{idleLane, noLane, isBusy}
 use Rattle.machine.specs.state.Flog.{mapWord, mapBlock, newerWord, freeOf}
-use Rattle.machine.specs.calls.Opening.{figuresIn, layoutIn, foundLane, handleFor, openOf}
+use Rattle.machine.specs.calls.Opening.{Room, figuresIn, layoutIn, foundLane, handleFor, openOf}
+use Rattle.machine.specs.words.Valid.{RoomFor}
 use Rattle.machine.specs.claims.DemandTwo.{AllIdle}
 use Rattle.machine.proofs.stores.Once.{Once, once-same}
 use Rattle.machine.proofs.stores.Stores.{Arena}
@@ -38,8 +41,8 @@ module _ (τ : Told) where
     pub free-in : (l : ℕ) → l < (layoutIn τ a) .N → freeOf (layoutIn τ a) a l < (layoutIn τ a) .I
     pub sequence-in : (l : ℕ) → l < (layoutIn τ a) .N → successor (newerWord (layoutIn τ a) a l 3) ≤ 3
     pub once : Once ((layoutIn τ a) .I) ((layoutIn τ a) .E) ((layoutIn τ a) .N) (mapBlock (layoutIn τ a) a) (freeOf (layoutIn τ a) a)
-    -- the handle that opening it gives
-    pub handle : Held τ a (handleFor τ a)
+    -- the handle that opening it with a table of just the lanes gives
+    pub handle : Held τ a (handleFor τ a [])
 
   -- an idle lane is as opening finds it
   pub record AsFound (a : List ℕ) (l : ℕ) (r : Lane) : Type 0 where
@@ -51,32 +54,39 @@ module _ (τ : Told) where
   pub first-word : (a : List ℕ) → FirstArena τ a → (s : ℕ) → s < (figuresIn a) .sectors
       → badWord ((figuresIn a) .blocks) (mapWord (layoutIn τ a) a s) ≡ false
   unfolding handleFor
-  first-word a x s u = held-word τ a (handleFor τ a) (x .handle) s u
+  first-word a x s u = held-word τ a (handleFor τ a []) (x .handle) s u
 
-  pub held-inv : (a : List ℕ) (h : Handle) → Held τ a h → Inv (layoutIn τ a) a (h .lanes)
+  pub held-inv : (a : List ℕ) (h : Handle) → Held τ a h → Inv (layoutIn τ a) a (h .table)
   held-inv a h k = rw (k .good .distance, k .good .figures) (k .good .inv)
 
   module _ (a : List ℕ) (h : Handle) (k : Held τ a h) (idle : AllIdle h) where
-    pub first-found : (l : ℕ) → l < (layoutIn τ a) .N → AsFound τ a l (laneAt (h .lanes) l)
+    pub first-found : (l : ℕ) → l < (layoutIn τ a) .N → AsFound τ a l (laneAt (h .table) l)
     first-found l u =
-        let e = word-idle (laneAt (h .lanes) l) (idle l (lanes-out (h .distance) (h .figures) l (rw (k .good .distance, k .good .figures) at u))) in
-        record { idle = e; is = idle-found (layoutIn τ a) a l (laneAt (h .lanes) l) (held-inv a h k .lane l u) e }
+        let e = word-idle (laneAt (h .table) l) (idle l (lanes-out (h .distance) (h .figures) l (rw (k .good .distance, k .good .figures) at u))) in
+        record { idle = e; is = idle-found (layoutIn τ a) a l (laneAt (h .table) l) (held-inv a h k .lane l u) e }
+
+    -- a work buffer of just the blocks, and a table of just the lanes
+    abbrev lent : Room
+    lent = record { work = replicate ((figuresIn a) .blocks) 0; table = replicate ((figuresIn a) .lanes) noLane }
+
+    -- the handle that an opening with these gives has no record past the lanes
+    none-past : handleFor τ a (lent .table) ≡ handleFor τ a []
+    unfolding handleFor layoutOf
+    none-past = rw (drop-of-length-le (lent .table) {i = (figuresIn a) .lanes} (omega (arith, length-replicate ((figuresIn a) .lanes) noLane)), drop-nil)
 
     -- opening it gives its handle and makes no store
-    first-handle : Held τ a (handleFor τ a)
-    first-handle = go (good-number τ a (h .distance) (h .figures) (h .lanes) (k .good) work room)
+    first-handle : Held τ a (handleFor τ a [])
+    first-handle = go (good-number τ a (h .distance) (h .figures) (h .table) (k .good) lent room)
       where
-        work : List ℕ
-        work = replicate (h .figures .blocks) 0
+        room : RoomFor (h .figures) lent
+        room = subst (λ (f : Figures). RoomFor f lent) (k .good .figures)
+            (record { bytes = omega (arith, length-replicate {A = ℕ} ((figuresIn a) .blocks) 0); records = omega (arith, length-replicate ((figuresIn a) .lanes) noLane) })
 
-        room : h .figures .blocks ≤ length (replicate {A = ℕ} (h .figures .blocks) 0)
-        room = omega (arith, length-replicate {A = ℕ} (h .figures .blocks) 0)
+        same : (openOf τ a lent) .arena ≡ a
+        same = idle-arena τ a (h .distance) (h .figures) (h .table) (k .good) lent room (λ l u. word-idle (laneAt (h .table) l) (idle l (lanes-out (h .distance) (h .figures) l u)))
 
-        same : (openOf τ a work) .arena ≡ a
-        same = idle-arena τ a (h .distance) (h .figures) (h .lanes) (k .good) work room (λ l u. word-idle (laneAt (h .lanes) l) (idle l (lanes-out (h .distance) (h .figures) l u)))
-
-        go : (openOf τ a work) .number ≡ 0 → Held τ a (handleFor τ a)
-        go e = rw (same, opened-handle τ a work e) at (held-open τ a work (k .good .inv .arena .bytes .small) e)
+        go : (openOf τ a lent) .number ≡ 0 → Held τ a (handleFor τ a [])
+        go e = rw (same, opened-handle τ a lent e, none-past) at (held-open τ a lent (k .good .inv .arena .bytes .small) e)
 
     pub first-arena : FirstArena τ a
     first-arena =
@@ -89,7 +99,7 @@ module _ (τ : Told) where
           map-in = i .map-in;
           free-in = λ l u. rw (ap (λ (r : Lane). r .block .0) (first-found l u .is)) (i .lane l u .block-in);
           sequence-in = λ l u. rw (ap (λ (r : Lane). r .sequence .0) (first-found l u .is)) (i .lane l u .set-high);
-          once = once-same (g .I) (g .E) (g .N) (mapBlock g a) (blockIn (h .lanes)) (mapBlock g a) (freeOf g a) (λ s u. refl)
+          once = once-same (g .I) (g .E) (g .N) (mapBlock g a) (blockIn (h .table)) (mapBlock g a) (freeOf g a) (λ s u. refl)
               (λ l u. ap (λ (r : Lane). r .block .0) (first-found l u .is)) (i .once);
           handle = first-handle;
         }

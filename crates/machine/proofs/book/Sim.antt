@@ -1,7 +1,7 @@
 -- An arena and its latest handle against the book: the arena is the first one with the book's stores put in, the lanes are the book's.
 -- Every call answers as the book does.
 use mathlib.Core.Path.{_≡_, refl, sym, ap, ap₂, _∙_}
-use mathlib.Core.List.{List, List·Memᴰ, List·Memᴰ·head, List·Memᴰ·tail}
+use mathlib.Core.List.{List, [], List·Memᴰ, List·Memᴰ·head, List·Memᴰ·tail}
 use mathlib.Core.Bool.{true, false, cond, not, _&&_}
 use Prim.Native.Nat.{ℕ, _<_}
 use native.Mathlib.Omega.{arith}
@@ -22,6 +22,8 @@ use Rattle.machine.specs.calls.Judging.{inFlight, tests, callNumber}
 use Rattle.machine.specs.calls.Order.{
   Rule,
   badHandle,
+  shortTable,
+  badRecords,
   noSuchSector,
   wrongBuffer,
   noSuchLane,
@@ -51,7 +53,7 @@ use Rattle.machine.specs.models.Book.{
   bookReply,
 }
 use Rattle.machine.specs.claims.DemandThree.{Differ}
-use Rattle.machine.proofs.invariant.Held.{held-allowed, held-word, held-clean, lanes-in, sectors-in, lanes-out}
+use Rattle.machine.proofs.invariant.Held.{held-allowed, held-short, held-records, held-word, held-clean, lanes-in, sectors-in, lanes-out}
 use Rattle.machine.proofs.invariant.Histories.{HeldIn}
 use Rattle.machine.proofs.book.Entries.{any-some, any-false}
 use Rattle.machine.proofs.rules.Rules.{alike}
@@ -89,7 +91,7 @@ module _ (τ : Told) where
   pub record Sim (a : List ℕ) (bytes : ℕ → List ℕ) (b : List Entry) (y : State) : Type 0 where
     pub arena : y .arena ≡ booked τ a bytes b
     pub figures : y .handle .figures ≡ figuresIn a
-    pub lanes : (l : ℕ) → l < (layoutIn τ a) .N → LaneOf τ a b l (laneAt (y .handle .lanes) l)
+    pub lanes : (l : ℕ) → l < (layoutIn τ a) .N → LaneOf τ a b l (laneAt (y .handle .table) l)
     pub ok : BookOk τ a bytes b
     pub held : HeldIn τ y
 
@@ -102,11 +104,11 @@ module _ (τ : Told) where
       rw (ne-eqb (d .sector) (e .sector) (f .0 e m .1)) (bytes-of a bytes c (f .1) e m t buffer)
 
   module _ (a : List ℕ) (bytes : ℕ → List ℕ) (x : FirstArena τ a) (b : List Entry) (y : State) (z : Sim a bytes b y) where
-    flies : (l : ℕ) → l < (figuresIn a) .lanes → isBusy (laneAt (y .handle .lanes) l) ≡ laneFlies τ a b l
-    flies l u = busy-is τ a b (z .ok .differ) l (laneAt (y .handle .lanes) l) (z .lanes l (lanes-in (τ .distance) (figuresIn a) l u))
+    flies : (l : ℕ) → l < (figuresIn a) .lanes → isBusy (laneAt (y .handle .table) l) ≡ laneFlies τ a b l
+    flies l u = busy-is τ a b (z .ok .differ) l (laneAt (y .handle .table) l) (z .lanes l (lanes-in (τ .distance) (figuresIn a) l u))
 
-    flights : (s : ℕ) → inFlight (y .handle .lanes) ((figuresIn a) .lanes) s ≡ sectorFlies τ a b s
-    flights = flight-is τ a b (z .ok .differ) ((figuresIn a) .lanes) (y .handle .lanes) (λ l u. z .lanes l (lanes-in (τ .distance) (figuresIn a) l u))
+    flights : (s : ℕ) → inFlight (y .handle .table) ((figuresIn a) .lanes) s ≡ sectorFlies τ a b s
+    flights = flight-is τ a b (z .ok .differ) ((figuresIn a) .lanes) (y .handle .table) (λ l u. z .lanes l (lanes-in (τ .distance) (figuresIn a) l u))
         (λ e m. lanes-out (τ .distance) (figuresIn a) (e .lane) (z .ok .each e m .lane-in))
 
     -- the handle's layout is the first arena's
@@ -155,6 +157,8 @@ module _ (τ : Told) where
 
     agree : (r : Rule) → Needs (figuresIn a) r → tests (y .arena) (y .handle) r ≡ bookTests τ a b r
     agree badHandle u = rw (held-allowed τ (y .arena) (y .handle) (z .held))
+    agree shortTable u = held-short τ (y .arena) (y .handle) (z .held)
+    agree badRecords u = rw (held-records τ (y .arena) (y .handle) (z .held))
     agree (noSuchSector s) u = rw (z .figures)
     agree (wrongBuffer n) u = rw (z .figures)
     agree (noSuchLane l) u = rw (z .figures)
@@ -180,7 +184,7 @@ module _ (τ : Told) where
 
     -- an accepted read gives the bytes of a finished write, and else what the first arena gives
     read-buffer : (s : ℕ) (buffer : List ℕ) → bookNumber τ a b (read s buffer) ≡ 0
-        → (readOf (y .arena) (y .handle) s buffer) .buffer ≡ cond (sectorDone τ a b s) (bytesOf τ a bytes b s buffer) ((readOf a (handleFor τ a) s buffer) .buffer)
+        → (readOf (y .arena) (y .handle) s buffer) .buffer ≡ cond (sectorDone τ a b s) (bytesOf τ a bytes b s buffer) ((readOf a (handleFor τ a []) s buffer) .buffer)
     read-buffer s buffer zero-number = by-bool (sectorDone τ a b s) _
         (λ t. let d = finished s t in
         let new = read-new τ a bytes x b (z .ok) (y .arena) (y .handle) (z .held) (z .figures) (z .arena) s buffer (d .entry) (d .member) (d .whole) (d .sector) in
@@ -188,7 +192,7 @@ module _ (τ : Told) where
         (rw (d .sector) (ap (λ (r : Read). r .buffer) new ∙ holds-read (figuresIn a) (bytes (d .entry .lane)) s buffer
         (ap (λ (r : Read). r .number) (sym new) ∙ number-of (read s buffer) ∙ zero-number))))
         (λ t. rw t (ap (λ (r : Read). r .buffer)
-        (read-old τ a bytes x b (z .ok) (y .arena) (y .handle) (z .held) (z .figures) (z .arena) s buffer (handleFor τ a) (x .handle) (early s t))))
+        (read-old τ a bytes x b (z .ok) (y .arena) (y .handle) (z .held) (z .figures) (z .arena) s buffer (handleFor τ a []) (x .handle) (early s t))))
 
     read-is : (s : ℕ) (buffer : List ℕ) → readOf (y .arena) (y .handle) s buffer ≡ bookRead τ a bytes b s buffer
     unfolding bookRead

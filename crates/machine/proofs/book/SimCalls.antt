@@ -77,18 +77,18 @@ module _ (τ : Told) where
   -- ---- a start and a step
 
   module _ (a : List ℕ) (bytes : ℕ → List ℕ) (x : FirstArena τ a) (b : List Entry) (y : State) (z : Sim τ a bytes b y) where
-    in-lanes : (l : ℕ) → l < (layoutIn τ a) .N → l < length (y .handle .lanes)
+    in-lanes : (l : ℕ) → l < (layoutIn τ a) .N → l < length (y .handle .table)
     in-lanes l u = let v : l < (laidOut (y .handle)) .N = rw (layout-is τ a bytes x b y z) u in omega (arith, z .held .good .inv .long)
 
     -- the lanes with one replaced
     with-lane : (c : List Entry) (l : ℕ) (r : Lane) → l < (layoutIn τ a) .N → LaneOf τ a c l r
         → ((j : ℕ) → j ≢ l → (q : Lane) → LaneOf τ a b j q → LaneOf τ a c j q)
-        → (j : ℕ) → j < (layoutIn τ a) .N → LaneOf τ a c j (laneAt (set (y .handle .lanes) l r) j)
+        → (j : ℕ) → j < (layoutIn τ a) .N → LaneOf τ a c j (laneAt (set (y .handle .table) l r) j)
     with-lane c l r u own others j v = go (ℕ-discrete j l)
       where
-        go : Dec (j ≡ l) → LaneOf τ a c j (laneAt (set (y .handle .lanes) l r) j)
-        go (yes p) = rw (p, lane-same (y .handle .lanes) l r (in-lanes l u)) own
-        go (no n) = rw (lane-other (y .handle .lanes) l r j n) (others j n _ (z .lanes j v))
+        go : Dec (j ≡ l) → LaneOf τ a c j (laneAt (set (y .handle .table) l r) j)
+        go (yes p) = rw (p, lane-same (y .handle .table) l r (in-lanes l u)) own
+        go (no n) = rw (lane-other (y .handle .table) l r j n) (others j n _ (z .lanes j v))
 
     -- an accepted start
     start-sim : (l s : ℕ) → startNumber (y .arena) (y .handle) l s ≡ 0 → Fresh b (start l s)
@@ -108,19 +108,19 @@ module _ (τ : Told) where
         v = sectors-in (τ .distance) (figuresIn a) s (rw (z .figures) at (start-found (y .arena) (y .handle) l s e .sector))
 
         r : Lane
-        r = startedLane (laneAt (y .handle .lanes) l) s (mapBlock (laidOut (y .handle)) (y .arena) s)
+        r = startedLane (laneAt (y .handle .table) l) s (mapBlock (laidOut (y .handle)) (y .arena) s)
 
-        handed : (startOf (y .arena) (y .handle) l s) .handle .lanes ≡ set (y .handle .lanes) l r
+        handed : (startOf (y .arena) (y .handle) l s) .handle .table ≡ set (y .handle .table) l r
         handed = unfold startOf in (rw e)
 
-        found : LaneOf τ a b l (laneAt (y .handle .lanes) l) → AsFound τ a l (laneAt (y .handle .lanes) l)
+        found : LaneOf τ a b l (laneAt (y .handle .table) l) → AsFound τ a l (laneAt (y .handle .table) l)
         found (untouched q _) = q
         found (written d m p _) = absurd (f d m .0 p)
 
         own : LaneOf τ a (entryOf l s 0 ∷ b) l r
         own = written (entryOf l s 0) (List·Memᴰ·head refl) refl
             (rw (layout-is τ a bytes x b y z, z .arena, kept-map τ a bytes x b (z .ok) s v (λ d m p. absurd (f d m .1 p)))
-            (lane-started τ a l s (laneAt (y .handle .lanes) l) (found (z .lanes l u))))
+            (lane-started τ a l s (laneAt (y .handle .table) l) (found (z .lanes l u))))
 
     -- an accepted step
     step-sim : (l : ℕ) (buffer : List ℕ) → stepNumber (y .arena) (y .handle) l buffer ≡ 0 → Small buffer → buffer ≡ bytes l
@@ -134,12 +134,12 @@ module _ (τ : Told) where
         u = lanes-in (τ .distance) (figuresIn a) l (rw (z .figures) at (d .lane))
 
         r : Lane
-        r = laneAt (y .handle .lanes) l
+        r = laneAt (y .handle .table) l
 
-        handed : (stepOf (y .arena) (y .handle) l buffer) .handle .lanes ≡ set (y .handle .lanes) l (laneStored (layoutIn τ a) r)
+        handed : (stepOf (y .arena) (y .handle) l buffer) .handle .table ≡ set (y .handle .table) l (laneStored (layoutIn τ a) r)
         handed = unfold stepOf in (rw (q, layout-is τ a bytes x b y z))
 
-        go : LaneOf τ a b l (laneAt (y .handle .lanes) l) → Sim τ a bytes (map (retally (oneMore l)) b) (after y (step l buffer))
+        go : LaneOf τ a b l (laneAt (y .handle .table) l) → Sim τ a bytes (map (retally (oneMore l)) b) (after y (step l buffer))
         go (untouched w _) = true-false (sym (d .busy) ∙ w .idle)
         go (written e m p is) = record {
           arena = unfold stepOf in (rw (q, layout-is τ a bytes x b y z, st-is, z .arena) (sym (more-arena τ a bytes x b (z .ok) l e m p flies sm size)));

@@ -20,7 +20,7 @@ use Rattle.machine.specs.state.Lane.{startedLane, writeStores}
 use Rattle.machine.specs.state.Stores.{Store, stored, putAll}
 use Rattle.machine.specs.state.Flog.{mapBlock, newerWord}
 use Rattle.machine.specs.calls.Order.{Call, read, start, step, write}
-use Rattle.machine.specs.calls.Opening.{figuresIn, layoutIn, laneReadable, mendStore, mends, openOf, cutOpenOf}
+use Rattle.machine.specs.calls.Opening.{Room, extentOf, figuresIn, layoutIn, laneReadable, mendStore, mends, openOf, cutOpenOf}
 use Rattle.machine.specs.calls.Writing.{Plan, planOf, storeAt, firstStores, startOf, stepNumber, stepOf, writeNumber, writeOf}
 use Rattle.machine.specs.calls.History.{runs, State, after, Event, called, opened, afterEvent, runEvents, openedFrom, SmallEvents}
 use Rattle.machine.specs.calls.Asides.{Happening, latestOf, AllHarmless}
@@ -32,8 +32,8 @@ use Rattle.machine.proofs.opening.Described.{allowed-arena, described-f
 use Rattle.machine.proofs.opening.Opens.{Opens, open-zero, lanes-pass, opened-figures}
 use Rattle.machine.proofs.opening.Mends.{readable-of, mends-take, mend-keeps, mends-arena}
 use Rattle.machine.proofs.calls.Accepted.{start-found, step-found, write-found}
-use Rattle.machine.proofs.calls.Running.{handle-ok}
-use Rattle.machine.proofs.calls.Tables.{layout, listed, plan}
+use Rattle.machine.proofs.calls.Running.{handle-ok, records-ok}
+use Rattle.machine.proofs.calls.Tables.{layout, plan}
 use Rattle.machine.proofs.calls.Whole.{steps-all, begun-ok}
 use Rattle.machine.proofs.invariant.Held.{lanes-in, held-open}
 use Rattle.machine.proofs.invariant.Asides.{latest-state}
@@ -90,9 +90,9 @@ module _ (R : Figures → List ℕ → List ℕ → Type 0) (keeps : Keeps R) wh
     unfolding stepOf
     step-kept l buffer = by-bool (eqb (stepNumber a h l buffer) 0) _
         (λ t. let found = step-found a h l buffer (eqb-true _ _ t) in
-        let k = handle-ok h (length a) (found .handle) in
-        let r = laneAt (h .lanes) l in
-        let range = k .lanes l (found .lane) in
+        let k = handle-ok h (length a) (found .judged .handle) in
+        let r = laneAt (h .table) l in
+        let range = records-ok h (found .judged .records) l (found .lane) in
         let p = plan (laidOut h) l r (lanes-in (h .distance) (h .figures) l (found .lane)) range in
         rw t (keeps .one (h .distance) (h .figures) (length a) (k .figures) (layout h a k) a (arena k) _
         (store-made (laidOut h) (planOf l r) p buffer (r .made) (range .made))))
@@ -104,11 +104,11 @@ module _ (R : Figures → List ℕ → List ℕ → Type 0) (keeps : Keeps R) wh
     write-kept l s buffer e =
         let w = write-found a h l s buffer e in
         let found = start-found a h l s (w .start) in
-        let k = handle-ok h (length a) (found .handle) in
-        let begun = startedLane (laneAt (h .lanes) l) s (mapBlock (laidOut h) a s) in
+        let k = handle-ok h (length a) (found .judged .handle) in
+        let begun = startedLane (laneAt (h .table) l) s (mapBlock (laidOut h) a s) in
         let range = begun-ok a h l s found in
         let p = plan (laidOut h) l begun (lanes-in (h .distance) (h .figures) l (found .lane)) range in
-        let all = steps-all a h l begun buffer (found .handle) (found .lane) (listed h a k l (found .lane)) refl range (w .size) in
+        let all = steps-all a h l begun buffer (found .judged) (found .lane) refl range (w .size) in
         rw (e, w .start, all)
         (first-kept (h .distance) (h .figures) (length a) (k .figures) (layout h a k) a (arena k) (planOf l begun) p buffer (writeStores (laidOut h)) (omega arith))
 
@@ -129,17 +129,17 @@ module _ (R : Figures → List ℕ → List ℕ → Type 0) (keeps : Keeps R) wh
         mends-kept (τ .distance) (figuresIn a) (length a) (described-figures τ a (o .info)) (described-layout τ a (o .info)) a
         (described-arena τ a (o .info) small) (lanes-pass (layoutIn τ a) a (o .lanes))
 
-    pub open-kept : (a work : List ℕ) → Small a → R (figuresIn a) a ((openOf τ a work) .arena)
+    pub open-kept : (a : List ℕ) (work : Room) → Small a → R (figuresIn a) a ((openOf τ a work) .arena)
     unfolding openOf
     open-kept a work small = by-bool (eqb ((openOf τ a work) .number) 0) _
-        (λ t. rw t (part-kept a small (open-zero τ a (length work) (eqb-true _ _ t) .0) ((layoutIn τ a) .N) (omega arith)))
+        (λ t. rw t (part-kept a small (open-zero τ a (extentOf work) (eqb-true _ _ t) .0) ((layoutIn τ a) .N) (omega arith)))
         (λ t. rw t (keeps .none (figuresIn a) a))
 
-    pub cut-kept : (a work : List ℕ) (k : ℕ) → Small a → R (figuresIn a) a ((cutOpenOf τ a work k) .arena)
+    pub cut-kept : (a : List ℕ) (work : Room) (k : ℕ) → Small a → R (figuresIn a) a ((cutOpenOf τ a work k) .arena)
     unfolding cutOpenOf
     cut-kept a work k small = by-bool (eqb ((cutOpenOf τ a work k) .number) 0) _
         (λ t. let r = mends-take (layoutIn τ a) a ((layoutIn τ a) .N) k in
-        rw (t, r .2) (part-kept a small (open-zero τ a (length work) (eqb-true _ _ t) .0) (r .0) (r .1)))
+        rw (t, r .2) (part-kept a small (open-zero τ a (extentOf work) (eqb-true _ _ t) .0) (r .0) (r .1)))
         (λ t. rw t (keeps .none (figuresIn a) a))
 
     -- ---- histories
@@ -158,14 +158,14 @@ module _ (R : Figures → List ℕ → List ℕ → Type 0) (keeps : Keeps R) wh
         (events-kept (afterEvent τ x e) es (λ d m. small d (List·Memᴰ·tail m)) (held-event τ x e (small e (List·Memᴰ·head refl)) k)))
 
     -- from before the opening on
-    pub opened-kept : (a work : List ℕ) (es : List Event) → Small a → SmallEvents es → (openOf τ a work) .number ≡ 0
+    pub opened-kept : (a : List ℕ) (work : Room) (es : List Event) → Small a → SmallEvents es → (openOf τ a work) .number ≡ 0
         → R (figuresIn a) a ((runEvents τ (openedFrom τ a work) es) .arena)
     opened-kept a work es small smalls e =
         let x = openedFrom τ a work in
         keeps .both (figuresIn a) a (x .arena) ((runEvents τ x es) .arena) (open-kept a work small)
         (subst (λ (f : Figures). R f (x .arena) ((runEvents τ x es) .arena)) (opened-figures τ a work e) (events-kept x es smalls (held-open τ a work small e)))
 
-    pub history-kept : (a work : List ℕ) (hs : List Happening) → Small a → SmallEvents (latestOf hs) → (openOf τ a work) .number ≡ 0
+    pub history-kept : (a : List ℕ) (work : Room) (hs : List Happening) → Small a → SmallEvents (latestOf hs) → (openOf τ a work) .number ≡ 0
         → AllHarmless τ (openedFrom τ a work) hs → R (figuresIn a) a ((leaves τ a work hs) .arena)
     history-kept a work hs small smalls e harmless =
         subst (λ (z : State). R (figuresIn a) a (z .arena)) (sym (latest-state τ hs (openedFrom τ a work) harmless)) (opened-kept a work (latestOf hs) small smalls e)

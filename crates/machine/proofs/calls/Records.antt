@@ -1,5 +1,6 @@
 -- Records that the definitions give, field by field.
 use mathlib.Core.Path.{_≡_, refl}
+use mathlib.Core.List.{List}
 use Prim.Native.Nat.{ℕ}
 use Rattle.machine.specs.declared.lane.Lane.{Lane}
 use Rattle.machine.specs.state.Lane.{idleLane, startedLane, storedLane}
@@ -32,5 +33,5 @@ zero-figures =
       copy-start = refl;
     }
 
-pub zero-handle : ZeroHandle noHandle
-zero-handle = record { total = refl; distance = refl; figures = zero-figures; lanes = refl }
+pub zero-handle : (table : List Lane) → ZeroHandle (noHandle table)
+zero-handle table = record { total = refl; distance = refl; figures = zero-figures }

@@ -10,7 +10,6 @@ use native.Mathlib.Decide.{ℕ-discrete}
 use lib.Dec.{eqb, leb, ltb}
 use lib.ListN.{length}
 use borrow.Author.Tests.{ltb-true, leb-true, eqb-true, lt-ltb, le-leb, eq-eqb, ne-eqb, eqb-false, not-true, not-false}
-use Rattle.format.specs.Tests.{every}
 use Rattle.format.specs.Sequence.{isSet}
 use Rattle.format.proofs.InNumbers.{map-words}
 use Rattle.layout.specs.Figures.{lengthAllowed, figuresAllowed}
@@ -20,7 +19,7 @@ use Rattle.format.proofs.Tests.{true-false, by-bool, and-intro, and-elim, all-e
 use Rattle.layout.proofs.Allowed.{distance-of, of-distance, distance-ok, allowed-of, of-allowed, fit-of}
 use Rattle.machine.specs.declared.lane.Lane.{Lane}
 use Rattle.layout.specs.Told.{distanceAllowed}
-use Rattle.machine.specs.state.Handle.{Handle, laneAt, handleAllowed, laidOut}
+use Rattle.machine.specs.state.Handle.{Handle, bareOf, laneAt, handleAllowed, tableShort, recordsAllowed, laidOut}
 use Rattle.machine.specs.state.Lane.{writeStores, laneAllowed, isBusy}
 use Rattle.machine.specs.Rules.{answer, FirstOf}
 use Rattle.machine.specs.calls.Reading.{readNumber, readOf}
@@ -33,6 +32,8 @@ use Rattle.machine.specs.calls.Order.{
   write,
   Rule,
   badHandle,
+  shortTable,
+  badRecords,
   noSuchSector,
   wrongBuffer,
   noSuchLane,
@@ -46,9 +47,9 @@ use Rattle.machine.specs.calls.Order.{
   order,
 }
 use Rattle.machine.specs.calls.Writing.{startNumber, startOf, stepNumber, stepOf, writeNumber, writeOf}
-use Rattle.machine.specs.words.Running.{LaneOk, HandleOk, InFlight, Holds, Answers}
+use Rattle.machine.specs.words.Running.{LaneOk, HandleOk, RecordsOk, InFlight, Holds, Answers}
 use Rattle.machine.specs.claims.Running.{AsTheyCame, RunningClaim}
-use Rattle.machine.proofs.rules.Rules.{first-in, unguarded}
+use Rattle.machine.proofs.rules.Rules.{first-in, unguarded, asked}
 use Rattle.machine.proofs.calls.Rule16.{lane-last, handle-last}
 use Rattle.machine.proofs.opening.Reflect.{length-ok, ok-length, bad-ok, ok-bad}
 
@@ -86,36 +87,42 @@ ok-lane g r k =
     sym (lane-last g r (k .block) (k .old) two (k .sequence-least) (k .sequence-most) (k .sector) one) ∙ lt-ltb (r .made) (writeStores g) (k .made)
 
 module _ (h : Handle) (n : ℕ) where
-  lane-test : ℕ → Bool
-  lane-test l = laneAllowed (laidOut h) (laneAt (h .lanes) l)
-
-  pub handle-ok : handleAllowed h n ≡ true → HandleOk h n
-  unfolding handleAllowed lane-test
+  pub handle-ok : handleAllowed (bareOf h) n ≡ true → HandleOk h n
+  unfolding handleAllowed
   handle-ok e =
       let p = and-elim (lengthAllowed n) _ e in
       let q = and-elim (eqb (h .length) n) _ (p .1) in
-      let d = and-elim (distanceAllowed (h .distance)) _ (q .1) in
-      let r = and-elim (figuresAllowed (h .figures) n) (every (h .figures .lanes) lane-test) (d .1) in
+      let d = and-elim (distanceAllowed (h .distance)) (figuresAllowed (h .figures) n) (q .1) in
       record {
         size = length-ok n (p .0);
         match = eqb-true _ _ (q .0);
         distance = distance-of (h .distance) (d .0);
-        figures = allowed-of (h .figures) n (r .0);
-        lanes = λ l u. lane-ok _ _ (every-elim (h .figures .lanes) lane-test (r .1) l u);
+        figures = allowed-of (h .figures) n (d .1);
       }
 
-  pub ok-handle : HandleOk h n → handleAllowed h n ≡ true
-  unfolding lane-test
+  pub ok-handle : HandleOk h n → handleAllowed (bareOf h) n ≡ true
   ok-handle k =
-      sym (handle-last h n (ok-length n (k .size)) (k .match) (of-distance (h .distance) (k .distance)) (of-allowed (h .figures) n (k .figures)))
-      ∙ every-intro (h .figures .lanes) lane-test (λ l u. ok-lane _ _ (k .lanes l u))
+      sym (handle-last (bareOf h) n (ok-length n (k .size)) (k .match) (of-distance (h .distance) (k .distance)))
+      ∙ of-allowed (h .figures) n (k .figures)
 
   -- so the figures of a handle that rule 16 lets pass fit the slice
-  pub handle-fit : handleAllowed h n ≡ true → Fit (h .distance) (h .figures) n
+  pub handle-fit : handleAllowed (bareOf h) n ≡ true → Fit (h .distance) (h .figures) n
   handle-fit e =
       let k = handle-ok e in
       let d = distance-ok (h .distance) (of-distance (h .distance) (k .distance)) in
       fit-of (h .distance) d (h .figures) n (k .figures) (k .size .multiple) (k .size .most)
+
+module _ (h : Handle) where
+  lane-test : ℕ → Bool
+  lane-test l = laneAllowed (laidOut h) (laneAt (h .table) l)
+
+  pub records-ok : recordsAllowed h ≡ true → RecordsOk h
+  unfolding recordsAllowed lane-test
+  records-ok e l u = lane-ok _ _ (every-elim (h .figures .lanes) lane-test e l u)
+
+  pub ok-records : RecordsOk h → recordsAllowed h ≡ true
+  unfolding recordsAllowed lane-test
+  ok-records k = every-intro (h .figures .lanes) lane-test (λ l u. ok-lane _ _ (k l u))
 
 -- ---- rules 12 to 15
 
@@ -153,13 +160,15 @@ module _ (a : List ℕ) (h : Handle) where
   tells : (r : Rule) → (tests a h r ≡ true → Holds a h r) × (Holds a h r → tests a h r ≡ true)
   tells badHandle = (
     λ e p. true-false (sym (ok-handle h (length a) p) ∙ not-true _ e),
-    λ no. by-bool (handleAllowed h (length a)) _ (λ e. absurd (no (handle-ok h (length a) e))) (λ e. rw e),
+    λ no. by-bool (handleAllowed (bareOf h) (length a)) _ (λ e. absurd (no (handle-ok h (length a) e))) (λ e. rw e),
   )
+  tells shortTable = (unfold tableShort in (ltb-true _ _), unfold tableShort in (lt-ltb _ _))
+  tells badRecords = asked (records-ok h) (ok-records h)
   tells (noSuchSector s) = (leb-true _ _, le-leb _ _)
   tells (wrongBuffer n) = (λ e. eqb-false _ _ (not-true _ e), λ e. rw (ne-eqb n (h .figures .size) e))
   tells (noSuchLane l) = (leb-true _ _, le-leb _ _)
-  tells (laneBusy l) = (busy-word (laneAt (h .lanes) l), word-busy (laneAt (h .lanes) l))
-  tells (laneIdle l) = (λ e. idle-word (laneAt (h .lanes) l) (not-true _ e), λ e. rw (word-idle (laneAt (h .lanes) l) e))
+  tells (laneBusy l) = (busy-word (laneAt (h .table) l), word-busy (laneAt (h .table) l))
+  tells (laneIdle l) = (λ e. idle-word (laneAt (h .table) l) (not-true _ e), λ e. rw (word-idle (laneAt (h .table) l) e))
   tells (sectorBusy s) = (flight-ok _ _ s, ok-flight _ _ s)
   tells (badMapWord s) = (bad-ok _ _, ok-bad _ _)
   tells (sloppyMapWord s) = (map-words .rule-18 _, map-words .rule-18-back _)

@@ -1,14 +1,13 @@
--- What an accepted read, start and step do, in bytes, of any handle. Rule 16 passed, so the figures are allowed and the lane's record is in range;
--- a record that is missing from the list has sequence 0 and is not, so the lane's record is one of the list.
+-- What an accepted read, start and step do, in bytes, of any handle. Rules 16 and 21 passed, so the figures are allowed, and the lane's record is one
+-- of the table and in range.
 use mathlib.Core.Path.{_≡_, refl, sym, ap, _∙_, subst}
 use mathlib.Core.Logic.{⊎-elim}
 use mathlib.Core.Bool.{Bool, true, false, cond}
 use mathlib.Core.List.{List}
 use Prim.Native.Nat.{ℕ, zero, suc, _+_, _-_, _*_, _/_, _≤_, _<_}
 use native.Mathlib.Omega.{arith}
-use native.Mathlib.Decide.{decLt}
 use lib.Dec.{ltb}
-use lib.ListN.{length, take, drop, length-set, List·getD-eq-default}
+use lib.ListN.{length, take, drop, length-set}
 use Rattle.format.proofs.Tests.{true-false}
 use Rattle.words.specs.Word.{word, putWord}
 use Rattle.words.specs.Bytes.{Small, byteWord}
@@ -25,7 +24,7 @@ use Rattle.layout.proofs.Offsets.{data-start, map-start}
 use Rattle.layout.proofs.Allowed.{of-distance, distance-ok, layout-ok}
 use Rattle.machine.specs.declared.lane.Lane.{Lane}
 use Rattle.machine.specs.state.Handle.{Handle, laneAt, withLane, laidOut}
-use Rattle.machine.specs.state.Lane.{noLane, startedLane, laneAfter, finishedLane, writeStores}
+use Rattle.machine.specs.state.Lane.{startedLane, laneAfter, finishedLane, writeStores}
 use Rattle.machine.specs.state.Flog.{mapWord, mapBlock}
 use Rattle.machine.specs.words.InBytes.{mapWordIn}
 use Rattle.machine.specs.words.Running.{LaneOk, HandleOk}
@@ -38,7 +37,7 @@ use Rattle.machine.proofs.opening.Described.{allowed-arena}
 use Rattle.machine.proofs.stores.Kinds.{PlanOk, store-fits}
 use Rattle.machine.proofs.invariant.Held.{lanes-in}
 use Rattle.machine.proofs.invariant.Steps.{stored-more, stored-last}
-use Rattle.machine.proofs.calls.Running.{handle-ok}
+use Rattle.machine.proofs.calls.Running.{handle-ok, records-ok}
 use Rattle.machine.proofs.calls.Whole.{steps-accepted, begun-ok}
 use Rattle.machine.proofs.calls.Accepted.{read-found, start-found, step-found, write-found}
 use Rattle.machine.specs.words.Records.{Started, OneMore}
@@ -62,16 +61,6 @@ module _ (h : Handle) (a : List ℕ) (k : HandleOk h (length a)) where
   pub layout : LayoutOk (laidOut h)
   layout = layout-ok (h .distance) (distance-ok (h .distance) (of-distance (h .distance) (k .distance))) (h .figures) (length a) (k .figures) (k .size .most)
 
-  -- the lane's record is one of the list
-  pub listed : (l : ℕ) → l < h .figures .lanes → l < length (h .lanes)
-  listed l u = go (decLt l (length (h .lanes)))
-    where
-      go : Dec (l < length (h .lanes)) → l < length (h .lanes)
-      go (yes v) = v
-      go (no v) =
-          let e : laneAt (h .lanes) l ≡ noLane = List·getD-eq-default (h .lanes) noLane (omega arith) in
-          absurd (omega (arith, k .lanes l u .sequence-least, ap (λ (r : Lane). r .sequence .0) e))
-
 -- ---- one store, and one record
 
 one-word : (a : List ℕ) (i v o : ℕ) → 4 * i ≡ o → o + 4 ≤ length a → v < 4294967296 → OneWord a (putWord a i v) o v
@@ -82,14 +71,14 @@ one-word a i v o e u b = record {
   kept = λ j c. getD-putWord-other a i v j (⊎-elim (λ p q. omega arith) (λ p q. omega arith) c);
 }
 
-one-record : (h : Handle) (l : ℕ) (r : Lane) (P : Lane → Type 0) → P r → l < length (h .lanes) → OneRecord h (withLane h l r) l P
+one-record : (h : Handle) (l : ℕ) (r : Lane) (P : Lane → Type 0) → P r → l < length (h .table) → OneRecord h (withLane h l r) l P
 one-record h l r P p u = record {
   size = refl;
   distance = refl;
   figures = refl;
-  count = length-set (h .lanes) l r;
-  changed = rw (lane-same (h .lanes) l r u) p;
-  kept = lane-other (h .lanes) l r;
+  count = length-set (h .table) l r;
+  changed = rw (lane-same (h .table) l r u) p;
+  kept = lane-other (h .table) l r;
 }
 
 -- ---- a step
@@ -141,42 +130,44 @@ module _ (d : ℕ) (f : Figures) (r : Lane) where
 
 module _ (a : List ℕ) (h : Handle) where
   pub step-table : (l : ℕ) (buffer : List ℕ) → Small a → Small buffer → (stepOf a h l buffer) .number ≡ 0
-      → StepTable a h l buffer (laneAt (h .lanes) l) (stepOf a h l buffer)
+      → StepTable a h l buffer (laneAt (h .table) l) (stepOf a h l buffer)
   unfolding stepOf
   step-table l buffer small bytes e =
       let found = step-found a h l buffer e in
-      let k = handle-ok h (length a) (found .handle) in
+      let k = handle-ok h (length a) (found .judged .handle) in
       let d = h .distance in
       let f = h .figures in
       let g = laidOut h in
-      let r = laneAt (h .lanes) l in
+      let r = laneAt (h .table) l in
       let u = found .lane in
+      let long : l < length (h .table) = omega (arith, found .judged .long) in
+      let range = records-ok h (found .judged .records) l u in
       let st = storeAt g (planOf l r) buffer (r .made) in
-      let fits = store-fits g (layout h a k) (planOf l r) (plan g l r (lanes-in d f l u) (k .lanes l u)) buffer bytes (r .made) (k .lanes l u .made) in
+      let fits = store-fits g (layout h a k) (planOf l r) (plan g l r (lanes-in d f l u) range) buffer bytes (r .made) (range .made) in
       let o = store-byte d f l r buffer (r .made) (distance-ok d (of-distance d (k .distance))) (length a) (k .figures) in
       let i = in-arena g (layout h a k) a (allowed-arena d f a (k .figures) (k .size .multiple) small) (st .place) (fits .range) in
       record {
         store = rw (e, ← store-word d f l r buffer (r .made)) (one-word a (at g (st .place)) (st .value) _ o (rw o at i) (fits .small));
         aligned = omega (arith, o);
-        more = λ v. rw e (one-record h l (laneStored g r) (OneMore r) (rw (after-more d f r v) (stored-fields r)) (listed h a k l u));
-        last = λ v. rw e (one-record h l (laneStored g r) _ (rw (after-last d f r v) (idle-fields _ _ _)) (listed h a k l u));
+        more = λ v. rw e (one-record h l (laneStored g r) (OneMore r) (rw (after-more d f r v) (stored-fields r)) long);
+        last = λ v. rw e (one-record h l (laneStored g r) _ (rw (after-last d f r v) (idle-fields _ _ _)) long);
       }
 
   -- ---- a start
 
-  pub start-table : (l s : ℕ) → Small a → (startOf a h l s) .number ≡ 0 → StartTable a h l s (laneAt (h .lanes) l) (startOf a h l s)
+  pub start-table : (l s : ℕ) → Small a → (startOf a h l s) .number ≡ 0 → StartTable a h l s (laneAt (h .table) l) (startOf a h l s)
   unfolding startOf
   start-table l s small e =
       let found = start-found a h l s e in
-      let k = handle-ok h (length a) (found .handle) in
-      let u = found .lane in
-      let r = laneAt (h .lanes) l in
+      let k = handle-ok h (length a) (found .judged .handle) in
+      let u : l < length (h .table) = omega (arith, found .lane, found .judged .long) in
+      let r = laneAt (h .table) l in
       let b = mapBlock (laidOut h) a s in
       let n = map-words .block s (mapWord (laidOut h) a s) ∙ ap (namedBlock s) (map-word (h .distance) (h .figures) (length a) (k .figures) a s) in
       record {
         arena = refl;
         handle = rw e (one-record h l (startedLane r s b) _
-            (subst (λ (o : ℕ). Started r s o (startedLane r s b)) n (started-fields r s b)) (listed h a k l u));
+            (subst (λ (o : ℕ). Started r s o (startedLane r s b)) n (started-fields r s b)) u);
       }
 
   -- ---- a read
@@ -192,7 +183,7 @@ module _ (a : List ℕ) (h : Handle) where
   pub read-table : (s : ℕ) (buffer : List ℕ) → Small a → (readOf a h s buffer) .number ≡ 0 → ReadTable a h s (readOf a h s buffer)
   unfolding readOf
   read-table s buffer small e =
-      let k = handle-ok h (length a) (read-found a h s buffer e .handle) in
+      let k = handle-ok h (length a) (read-found a h s buffer e .judged .handle) in
       let w = mapWord (laidOut h) a s in
       let m : w ≡ mapWordIn (h .figures) a s = map-word (h .distance) (h .figures) (length a) (k .figures) a s in
       record {
@@ -217,7 +208,7 @@ module _ (a : List ℕ) (h : Handle) where
   steps-are (suc n) b k l buffer = ap (λ (o : Outcome). stepOf (o .arena) (o .handle) l buffer) (steps-are n b k l buffer)
 
   start-handle : (l s : ℕ) → (startOf a h l s) .number ≡ 0
-      → (startOf a h l s) .handle ≡ withLane h l (startedLane (laneAt (h .lanes) l) s (mapBlock (laidOut h) a s))
+      → (startOf a h l s) .handle ≡ withLane h l (startedLane (laneAt (h .table) l) s (mapBlock (laidOut h) a s))
   unfolding startOf
   start-handle l s e = rw e
 
@@ -227,13 +218,12 @@ module _ (a : List ℕ) (h : Handle) where
       let first : (startOf a h l s) .number ≡ 0 = unfold startOf in (write-found a h l s buffer e .start) in
       let same = steps-are (writeStores (laidOut h)) a ((startOf a h l s) .handle) l buffer in
       let found = start-found a h l s (write-found a h l s buffer e .start) in
-      let begun = startedLane (laneAt (h .lanes) l) s (mapBlock (laidOut h) a s) in
-      let held = listed h a (handle-ok h (length a) (found .handle)) l (found .lane) in
+      let begun = startedLane (laneAt (h .table) l) s (mapBlock (laidOut h) a s) in
       record {
         start = first;
         steps = λ n u. ap (λ (o : Outcome). o .number) (sym (steps-are (suc n) a ((startOf a h l s) .handle) l buffer))
             ∙ rw (start-handle l s first)
-            (steps-accepted a h l begun buffer (found .handle) (found .lane) held refl (begun-ok a h l s found) (write-found a h l s buffer e .size)
+            (steps-accepted a h l begun buffer (found .judged) (found .lane) refl (begun-ok a h l s found) (write-found a h l s buffer e .size)
             n (unfold layoutOf in u));
         arena = rw e (unfold layoutOf startOf in (ap (λ (o : Outcome). o .arena) same));
         handle = rw e (unfold layoutOf startOf in (ap (λ (o : Outcome). o .handle) same));

@@ -2,59 +2,52 @@
 -- Each step is accepted, since a record in range with another count is in range.
 use mathlib.Core.Path.{_≡_, refl, ap, _∙_}
 use mathlib.Core.Logic.{inr}
-use mathlib.Core.Bool.{true, not}
+use mathlib.Core.Bool.{true, not, false}
 use mathlib.Core.List.{List}
 use Prim.Native.Nat.{ℕ, zero, suc, _+_, _<_}
 use native.Mathlib.Omega.{arith}
 use native.Mathlib.Decide.{ℕ-discrete}
 use native.Mathlib.Numerals.{add-one}
-use lib.ListN.{length, set}
+use lib.ListN.{length, set, length-set}
 use lib.Seq.{set-set}
-use borrow.Author.Tests.{eq-eqb, lt-leb}
+use borrow.Author.Tests.{eq-eqb, lt-leb, le-ltb}
 use Rattle.format.proofs.MapWord.{block-in}
 use Rattle.layout.specs.Place.{Layout, layoutOf}
 use Rattle.machine.specs.declared.lane.Lane.{Lane}
 use Rattle.machine.specs.state.Flog.{mapWord, mapBlock}
-use Rattle.machine.specs.state.Handle.{Handle, laneAt, laidOut, handleAllowed, withLane}
+use Rattle.machine.specs.state.Handle.{Handle, bareOf, laneAt, laidOut, handleAllowed, tableShort, recordsAllowed, withLane}
 use Rattle.machine.specs.state.Lane.{isBusy, startedLane, laneAfter, finishedLane, writeStores}
 use Rattle.machine.specs.state.Stores.{putAll}
-use Rattle.machine.specs.words.Running.{LaneOk, HandleOk}
+use Rattle.machine.specs.words.Running.{LaneOk}
 use Rattle.machine.specs.calls.Order.{step}
 use Rattle.machine.specs.calls.Writing.{Outcome, planOf, firstStores, laneStored, stepNumber, stepOf, stepsOf}
 use Rattle.machine.proofs.rules.Rules.{pass, through}
 use Rattle.machine.proofs.rules.Running.{call-walk}
-use Rattle.machine.proofs.calls.Accepted.{StartFound}
+use Rattle.machine.proofs.calls.Accepted.{Judged, StartFound}
 use Rattle.machine.proofs.invariant.Inv.{lane-same, lane-other}
-use Rattle.machine.proofs.calls.Running.{handle-ok, ok-handle, handle-fit}
+use Rattle.machine.proofs.calls.Running.{records-ok, ok-records, handle-fit}
 use Rattle.machine.proofs.invariant.Steps.{stored-more, stored-last}
 use Rattle.machine.proofs.stores.Stores.{putAll-length}
 use Rattle.machine.proofs.stores.Kinds.{first-more}
 
--- rule 16 lets a handle pass in which a record is replaced by one in range
-handle-with : (h : Handle) (n l : ℕ) (r : Lane) → handleAllowed h n ≡ true → l < length (h .lanes) → LaneOk (laidOut h) r
-    → handleAllowed (withLane h l r) n ≡ true
-handle-with h n l r e u k =
-    ok-handle (withLane h l r) n (record {
-      size = o .size;
-      match = o .match;
-      distance = o .distance;
-      figures = o .figures;
-      lanes = λ j v. lane j v (ℕ-discrete j l);
-    })
+-- rule 16 lets records pass of which one is replaced by one in range
+records-with : (h : Handle) (l : ℕ) (r : Lane) → recordsAllowed h ≡ true → l < length (h .table) → LaneOk (laidOut h) r
+    → recordsAllowed (withLane h l r) ≡ true
+records-with h l r e u k = ok-records (withLane h l r) (λ j v. lane j v (ℕ-discrete j l))
   where
-    o : HandleOk h n
-    o = handle-ok h n e
-
-    lane : (j : ℕ) → j < h .figures .lanes → Dec (j ≡ l) → LaneOk (laidOut h) (laneAt (set (h .lanes) l r) j)
-    lane j v (yes d) = rw (d, lane-same (h .lanes) l r u) k
-    lane j v (no d) = rw (lane-other (h .lanes) l r j d) (o .lanes j v)
+    lane : (j : ℕ) → j < h .figures .lanes → Dec (j ≡ l) → LaneOk (laidOut h) (laneAt (set (h .table) l r) j)
+    lane j v (yes d) = rw (d, lane-same (h .table) l r u) k
+    lane j v (no d) = rw (lane-other (h .table) l r j d) (records-ok h e j v)
 
 -- the write of a busy record in range, from its first store
-module _ (a : List ℕ) (h : Handle) (l : ℕ) (r : Lane) (buffer : List ℕ) (allowed : handleAllowed h (length a) ≡ true)
-    (lane : l < h .figures .lanes) (held : l < length (h .lanes)) (busy : isBusy r ≡ true) (range : LaneOk (laidOut h) r)
+module _ (a : List ℕ) (h : Handle) (l : ℕ) (r : Lane) (buffer : List ℕ) (allowed : Judged a h)
+    (lane : l < h .figures .lanes) (busy : isBusy r ≡ true) (range : LaneOk (laidOut h) r)
     (size : length buffer ≡ h .figures .size) where
   abbrev g : Layout
   g = laidOut h
+
+  held : l < length (h .table)
+  held = omega (arith, allowed .long)
 
   -- the arena with the first k stores
   abbrev made : ℕ → List ℕ
@@ -75,18 +68,20 @@ module _ (a : List ℕ) (h : Handle) (l : ℕ) (r : Lane) (buffer : List ℕ) (a
   accepted : (k : ℕ) → k < writeStores g → 0 ≡ stepNumber (made k) (withLane h l (laneAfter r k)) l buffer
   accepted k u =
       let n = putAll-length g (firstStores g (planOf l r) buffer k) a in
-      let v : handleAllowed (withLane h l (laneAfter r k)) (length (made k)) ≡ true =
-      rw n (handle-with h (length a) l (laneAfter r k) allowed held (after-ok k u)) in
-      let b = ap (λ (x : Lane). not (isBusy x)) (lane-same (h .lanes) l (laneAfter r k) held) ∙ ap not busy in
+      let v : handleAllowed (bareOf h) (length (made k)) ≡ true = rw n (allowed .handle) in
+      let w : tableShort (withLane h l (laneAfter r k)) ≡ false =
+      unfold tableShort in (rw (length-set (h .table) l (laneAfter r k)) (le-ltb _ _ (allowed .long))) in
+      let x = records-with h l (laneAfter r k) (allowed .records) held (after-ok k u) in
+      let b = ap (λ (x : Lane). not (isBusy x)) (lane-same (h .table) l (laneAfter r k) held) ∙ ap not busy in
       call-walk (made k) (withLane h l (laneAfter r k)) (step l buffer)
-      (pass (ap not v) (pass (lt-leb _ _ lane) (pass b (pass (ap not (eq-eqb _ _ size)) through))))
+      (pass (ap not v) (pass w (pass (ap not x) (pass (lt-leb _ _ lane) (pass b (pass (ap not (eq-eqb _ _ size)) through))))))
 
   one : (k : ℕ) → k < writeStores g
       → stepOf (made k) (withLane h l (laneAfter r k)) l buffer
       ≡ record { number = 0; arena = made (suc k); handle = withLane h l (laneStored g (laneAfter r k)) }
   unfolding stepOf
   one k u =
-      rw (← accepted k u, lane-same (h .lanes) l (laneAfter r k) held, set-set, first-more)
+      rw (← accepted k u, lane-same (h .table) l (laneAfter r k) held, set-set, first-more)
 
   steps-some : (k : ℕ) → k < writeStores g
       → stepsOf k a (withLane h l (laneAfter r 0)) l buffer ≡ record { number = 0; arena = made k; handle = withLane h l (laneAfter r k) }
@@ -114,11 +109,11 @@ module _ (a : List ℕ) (h : Handle) (l : ℕ) (r : Lane) (buffer : List ℕ) (a
 
 -- a start leaves a record in range
 pub begun-ok : (a : List ℕ) (h : Handle) (l s : ℕ) → StartFound a h l s
-    → LaneOk (laidOut h) (startedLane (laneAt (h .lanes) l) s (mapBlock (laidOut h) a s))
+    → LaneOk (laidOut h) (startedLane (laneAt (h .table) l) s (mapBlock (laidOut h) a s))
 unfolding layoutOf
 begun-ok a h l s found =
-    let o = handle-ok h (length a) (found .handle) .lanes l (found .lane) in
-    let ok = handle-fit h (length a) (found .handle) .ok in
+    let o = records-ok h (found .judged .records) l (found .lane) in
+    let ok = handle-fit h (length a) (found .judged .handle) .ok in
     record {
       busy = inr refl;
       block = o .block;

@@ -3,10 +3,9 @@
 use mathlib.Core.Path.{_≡_, refl, sym, ap, _∙_, subst}
 use mathlib.Core.Logic.{_≢_, inl, inr}
 use mathlib.Core.List.{List}
-use Prim.Native.Nat.{ℕ, _+_, _≤_, _<_}
+use Prim.Native.Nat.{ℕ, _+_, _<_}
 use native.Mathlib.Omega.{arith}
 use native.Mathlib.Decide.{ℕ-discrete}
-use lib.ListN.{length}
 use Rattle.words.specs.Word.{word}
 use Rattle.words.specs.Bytes.{Small}
 use Rattle.format.proofs.Tests.{true-false}
@@ -28,6 +27,8 @@ use Rattle.machine.proofs.stores.Offsets.{map-word}
 use Rattle.machine.proofs.calls.Kept.{Made, Keeps, calls-kept, open-kept, cut-kept, history-kept}
 use Rattle.machine.proofs.making.Making.{making-claim, made-small}
 use Rattle.machine.proofs.row.StaysClean.{stays-clean}
+use Rattle.machine.specs.calls.Opening.{Room}
+use Rattle.machine.specs.claims.Making.{FreshRoom}
 
 -- one after the other
 kept-then : (blocks x y z : ℕ) → KeptOrMapped blocks x y → KeptOrMapped blocks y z → KeptOrMapped blocks x z
@@ -74,8 +75,8 @@ map-keeps : Keeps MapKept
 map-keeps = record { none = λ f a s u. inl refl; both = λ f a b c p q s u. kept-then _ _ _ _ (p s u) (q s u); one = map-one }
 
 -- an arena that we made
-ours : (d : ℕ) → Distance d → (o : Wanted) (a work : List ℕ) (hs : List Happening) → Small a → Small (o .first) → Small (o .second) → (makeOf o a) .number ≡ 0
-    → o .sectors + o .lanes ≤ length work → SmallEvents (latestOf hs) → AllHarmless (alone d) (openedFrom (alone d) ((makeOf o a) .arena) work) hs
+ours : (d : ℕ) → Distance d → (o : Wanted) (a : List ℕ) (work : Room) (hs : List Happening) → Small a → Small (o .first) → Small (o .second) → (makeOf o a) .number ≡ 0
+    → FreshRoom o work → SmallEvents (latestOf hs) → AllHarmless (alone d) (openedFrom (alone d) ((makeOf o a) .arena) work) hs
     → (s : ℕ) → s < o .sectors
     → KeptOrMapped (o .sectors + o .lanes) 0
     (mapWordIn (freshFigures (o .size) (o .sectors) (o .lanes)) ((leaves (alone d) ((makeOf o a) .arena) work hs) .arena) s)

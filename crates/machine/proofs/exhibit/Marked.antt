@@ -3,7 +3,7 @@
 use mathlib.Core.Path.{_≡_, refl, _∙_}
 use mathlib.Core.List.{List}
 use mathlib.Core.Bool.{false}
-use Prim.Native.Nat.{ℕ, _≤_, _<_}
+use Prim.Native.Nat.{ℕ, _<_}
 use native.Mathlib.Omega.{arith}
 use lib.ListN.{length, replicate}
 use Rattle.words.specs.Word.{putWord}
@@ -19,10 +19,11 @@ use Rattle.machine.specs.state.Handle.{laneAt}
 use Rattle.machine.specs.state.Lane.{isBusy}
 use Rattle.machine.specs.state.Stores.{stored}
 use Rattle.machine.specs.state.Flog.{mapWord}
-use Rattle.machine.specs.calls.Opening.{figuresIn, layoutIn, openOf}
+use Rattle.machine.specs.calls.Opening.{Room, figuresIn, layoutIn, openOf}
 use Rattle.machine.specs.calls.Reading.{readOf}
 use Rattle.machine.specs.calls.History.{State, openedFrom}
 use Rattle.machine.specs.models.Row.{Sector, holds, bad}
+use Rattle.machine.specs.words.Valid.{RoomFor}
 use Rattle.machine.specs.claims.Exhibit.{ReadByFlags}
 use Rattle.machine.proofs.stores.MapStores.{wordStore, word-other, word-here}
 use Rattle.machine.proofs.opening.Opens.{opened-distance, opened-figures, opened-idle}
@@ -57,10 +58,10 @@ module _ (d : ℕ) where
   unfolding layoutOf freshFigures internalOf
   marked-is a = refl
 
-  module _ (a work : List ℕ) (small : Small a) (opens : (openOf (alone d) a work) .number ≡ 0) (same : (openOf (alone d) a work) .arena ≡ a)
-      (figures : figuresIn a ≡ f) (unwritten : (s : ℕ) → s < 60 → mapWord (layoutIn (alone d) a) a s ≡ 0) (room : 64 ≤ length work) where
+  module _ (a : List ℕ) (work : Room) (small : Small a) (opens : (openOf (alone d) a work) .number ≡ 0) (same : (openOf (alone d) a work) .arena ≡ a)
+      (figures : figuresIn a ≡ f) (unwritten : (s : ℕ) → s < 60 → mapWord (layoutIn (alone d) a) a s ≡ 0) (room : RoomFor f work) where
     abbrev lanes : List Lane
-    lanes = (openOf (alone d) a work) .handle .lanes
+    lanes = (openOf (alone d) a work) .handle .table
 
     good : Good (alone d) a d f lanes
     good = rw (opened-distance (alone d) a work opens, opened-figures (alone d) a work opens ∙ figures, same) at
@@ -82,12 +83,8 @@ module _ (d : ℕ) where
 
     -- ---- it opens
 
-    enough : f .blocks ≤ length work
-    unfolding freshFigures
-    enough = room
-
     number : (openOf (alone d) (marked a) work) .number ≡ 0
-    number = good-number (alone d) (marked a) d f lanes good-6 work enough
+    number = good-number (alone d) (marked a) d f lanes good-6 work room
 
     idle : (l : ℕ) → l < g .N → isBusy (laneAt lanes l) ≡ false
     idle l u = word-idle (laneAt lanes l)
@@ -97,7 +94,7 @@ module _ (d : ℕ) where
     x = openedFrom (alone d) (marked a) work
 
     arena : x .arena ≡ marked a
-    arena = idle-arena (alone d) (marked a) d f lanes good-6 work enough idle
+    arena = idle-arena (alone d) (marked a) d f lanes good-6 work room idle
 
     held : HeldIn (alone d) x
     held = held-open (alone d) (marked a) work (good-6 .inv .arena .bytes .small) number

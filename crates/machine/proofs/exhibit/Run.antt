@@ -5,6 +5,7 @@ use mathlib.Core.List.{List, [], _∷_, _++_, map, Memᴰ·of-map}
 use Prim.Native.Nat.{ℕ, _+_, _≤_, _<_}
 use native.Mathlib.Omega.{arith}
 use lib.ListN.{length, replicate, length-replicate}
+use borrow.Author.Tests.{lt-ltb, le-ltb}
 use Rattle.words.specs.Bytes.{Small}
 use Rattle.format.proofs.Below.{below-replicate}
 use Rattle.layout.specs.Figures.{freshLength, freshFigures}
@@ -12,9 +13,9 @@ use Rattle.layout.specs.Sizes.{internalOf}
 use Rattle.layout.specs.Place.{layoutOf}
 use Rattle.machine.specs.calls.Making.{makeNumber, makeOf}
 use Rattle.machine.specs.Rules.{answer}
-use Rattle.machine.specs.state.Handle.{noHandle}
+use Rattle.machine.specs.state.Handle.{noHandle, laneAt}
 use Rattle.machine.specs.state.Flog.{mapWord}
-use Rattle.machine.specs.calls.Opening.{layoutIn, figuresIn, openNumber, openOf, cutOpenOf}
+use Rattle.machine.specs.calls.Opening.{Room, extentOf, layoutIn, figuresIn, openNumber, openOf, cutOpenOf}
 use Rattle.machine.specs.calls.Writing.{stepOf}
 use Rattle.machine.specs.claims.Making.{FreshArena}
 use Rattle.machine.specs.calls.History.{
@@ -42,10 +43,12 @@ use Rattle.machine.specs.models.Row.{OneBuffer, firstRow}
 use Rattle.machine.specs.claims.DemandTwo.{AllIdle, leaves}
 use Rattle.machine.specs.models.Book.{Entry, bookAfter, lastWords}
 use Rattle.machine.specs.claims.DemandThree.{lends, Ready, Listed}
+use Rattle.machine.specs.words.Valid.{RoomFor}
 use Rattle.machine.specs.claims.Opening.{CutsTold}
-use Rattle.machine.specs.claims.Exhibit.{exhibitWanted, exhibitFound, exhibitWork, exhibitBytes, Exhibited}
-use Rattle.machine.proofs.opening.Opens.{open-zero, opened-idle}
+use Rattle.machine.specs.claims.Exhibit.{exhibitWanted, exhibitFound, exhibitRoom, exhibitShort, exhibitBytes, Exhibited}
+use Rattle.machine.proofs.opening.Opens.{open-number, open-zero, opened-figures, opened-idle}
 use Rattle.machine.proofs.calls.Accepted.{step-found}
+use Rattle.machine.proofs.calls.Lent.{table-claim}
 use Rattle.machine.proofs.calls.Running.{handle-ok, running-claim}
 use Rattle.machine.proofs.opening.Opening.{opening-claim}
 use Rattle.machine.proofs.stores.Members.{Each, each-more, each-one, each-append, each-replicate}
@@ -66,31 +69,33 @@ use Rattle.layout.specs.Claims.{Distance}
 use Rattle.layout.specs.Told.{alone}
 
 -- no layout of 48: refused with 16
-refused-layout : (b work : List ℕ) → (openOf (alone 48) b work) .number ≢ 0
+refused-layout : (b : List ℕ) (work : Room) → (openOf (alone 48) b work) .number ≢ 0
 unfolding openOf openNumber answer
 refused-layout b work e = omega arith
 
-refused-cut-layout : (b work : List ℕ) (k : ℕ) → (cutOpenOf (alone 48) b work k) .number ≢ 0
+refused-cut-layout : (b : List ℕ) (work : Room) (k : ℕ) → (cutOpenOf (alone 48) b work k) .number ≢ 0
 unfolding cutOpenOf openNumber answer
 refused-cut-layout b work k e = omega arith
 
 -- ---- an arena that opens and changes nothing
 
--- such an arena, and the bytes that the calls lend
-record Given (d : ℕ) (a work : List ℕ) (bytes : ℕ → List ℕ) (buffer : List ℕ) : Type 0 where
+-- such an arena, room to work and room whose table is short, and the bytes that the calls lend
+record Given (d : ℕ) (a : List ℕ) (work short : Room) (bytes : ℕ → List ℕ) (buffer : List ℕ) : Type 0 where
   small : Small a
   opens : (openOf (alone d) a work) .number ≡ 0
   same : (openOf (alone d) a work) .arena ≡ a
   figures : figuresIn a ≡ freshFigures 512 60 4
   unwritten : (s : ℕ) → s < 60 → mapWord (layoutIn (alone d) a) a s ≡ 0
-  room : 64 ≤ length work
-  small-work : Small work
+  room : RoomFor (freshFigures 512 60 4) work
+  small-work : Small (work .work)
+  short-bytes : 64 ≤ length (short .work)
+  short-records : length (short .table) < 4
   size : (l : ℕ) → length (bytes l) ≡ 512
   small-bytes : (l : ℕ) → l < 3 → Small (bytes l)
   size-buffer : length buffer ≡ 512
   small-buffer : Small buffer
 
-module _ (d : ℕ) (a work : List ℕ) (bytes : ℕ → List ℕ) (buffer : List ℕ) (g : Given d a work bytes buffer) where
+module _ (d : ℕ) (a : List ℕ) (work short : Room) (bytes : ℕ → List ℕ) (buffer : List ℕ) (g : Given d a work short bytes buffer) where
   abbrev y : State
   y = openedFrom (alone d) a work
 
@@ -153,14 +158,12 @@ module _ (d : ℕ) (a work : List ℕ) (bytes : ℕ → List ℕ) (buffer : List
 
   reached : y ≡ leaves (alone d) a work before
   unfolding runs before
-  reached =
-      let k = opening-claim (alone d) .again a work work (g .small) (g .opens) (unfold layoutOf in (rw (g .figures) (unfold freshFigures in (g .room)))) in
-      rw (k .number) (λ j. record { arena = sym (k .arena) j; handle = sym (k .handle) j })
+  reached = rw (g .same, g .opens, g .same)
 
   ready : Ready (alone d) y
   ready = record {
     found = a;
-    work = work;
+    room = work;
     history = before;
     small = g .small;
     small-history = unfold before latestOf in
@@ -193,7 +196,7 @@ module _ (d : ℕ) (a work : List ℕ) (bytes : ℕ → List ℕ) (buffer : List
   events = map called calls ++ (opened work ∷ [])
 
   abbrev history : List Happening
-  history = aside noHandle (step 0 (bytes 0)) ∷ shortened d [] 1 ∷ tried 48 work ∷ map latest events
+  history = aside (noHandle []) (step 0 (bytes 0)) ∷ shortened d short 1 ∷ tried 48 work ∷ map latest events
 
   latest-all : (es : List Event) → latestOf (map latest es) ≡ es
   unfolding latestOf
@@ -204,30 +207,30 @@ module _ (d : ℕ) (a work : List ℕ) (bytes : ℕ → List ℕ) (buffer : List
   harmless-all [] x = tt
   harmless-all (e ∷ es) x = (tt, harmless-all es (afterEvent (alone d) x e))
 
-  -- an empty handle is refused with 16, no room with 5, and a layout that there is not with 16
+  -- an empty handle is refused with 16, a short table with 21, and a layout that there is not with 16
   harmless : AllHarmless (alone d) y history
   unfolding runs
   harmless = (
     refused-step,
     (
-      rw (running-claim .step-refused (y .arena) noHandle 0 (bytes 0) refused-step .arena) refused-cut,
+      rw (running-claim .step-refused (y .arena) (noHandle []) 0 (bytes 0) refused-step .arena) refused-cut,
       (
-        refused-layout (afterOne (alone d) (afterOne (alone d) y (aside noHandle (step 0 (bytes 0)))) (shortened d [] 1) .arena) work,
-        harmless-all events (runs (afterOne (alone d)) y (aside noHandle (step 0 (bytes 0)) ∷ shortened d [] 1 ∷ tried 48 work ∷ [])),
+        refused-layout (afterOne (alone d) (afterOne (alone d) y (aside (noHandle []) (step 0 (bytes 0)))) (shortened d short 1) .arena) work,
+        harmless-all events (runs (afterOne (alone d)) y (aside (noHandle []) (step 0 (bytes 0)) ∷ shortened d short 1 ∷ tried 48 work ∷ [])),
       ),
     ),
   )
     where
-      refused-step : (stepOf (y .arena) noHandle 0 (bytes 0)) .number ≢ 0
+      refused-step : (stepOf (y .arena) (noHandle []) 0 (bytes 0)) .number ≢ 0
       refused-step e =
-          let k = handle-ok noHandle (length (y .arena)) (step-found (y .arena) noHandle 0 (bytes 0) (unfold stepOf in e) .handle) in
+          let k = handle-ok (noHandle []) (length (y .arena)) (step-found (y .arena) (noHandle []) 0 (bytes 0) (unfold stepOf in e) .judged .handle) in
           omega (arith, k .match, k .size .least)
 
-      refused-cut : (cutOpenOf (alone d) (y .arena) [] 1) .number ≢ 0
+      refused-cut : (cutOpenOf (alone d) (y .arena) short 1) .number ≢ 0
       refused-cut e =
-          let z = opening-claim (alone d) .cut (y .arena) [] 1 .number in
-          let few = open-zero (alone d) (y .arena) 0 (unfold openOf in (sym z ∙ e)) .1 in
-          unfold layoutOf freshFigures in (omega (arith, rw figures at few))
+          let z = opening-claim (alone d) .cut (y .arena) short 1 .number in
+          let few = open-zero (alone d) (y .arena) (extentOf short) (unfold openOf in (sym z ∙ e)) .1 .records in
+          unfold layoutOf freshFigures in (omega (arith, rw figures at few, g .short-records))
 
   small-events : SmallEvents (latestOf history)
   unfolding latestOf
@@ -257,8 +260,22 @@ module _ (d : ℕ) (a work : List ℕ) (bytes : ℕ → List ℕ) (buffer : List
       after-cut (alone d) (y .arena) bytes first _ _ z (y .handle) held work (rw figures (g .room)) .mended
       ∙ ap (λ (b : List Entry). length (lastWords (alone d) (y .arena) b)) (ran .book) ∙ one-last (alone d) (y .arena) first figures unwritten bytes (g .size)
 
+  -- the records past the lanes, 4 and on, are as they came
+  past : (l : ℕ) → 4 ≤ l → laneAt ((run y calls) .handle .table) l ≡ laneAt (work .table) l
+  unfolding freshFigures
+  past l u =
+      table-claim .list-past y calls l (rw (opened-figures (alone d) a work (g .opens), g .figures) u)
+      ∙ table-claim .opening d a work l (rw (g .figures) u)
+
+  -- a table that lacks a record
+  few-records : (openOf (alone d) a short) .number ≡ 21
+  unfolding openOf layoutOf freshFigures
+  few-records =
+      open-number (alone d) a (extentOf short) (open-zero (alone d) a (extentOf work) (g .opens) .0)
+      ∙ rw (g .figures, le-ltb (length (short .work)) 64 (g .short-bytes), lt-ltb (length (short .table)) 4 (g .short-records))
+
   -- a cut opening in the handle's layout, and one in a layout that there is not
-  cuts-told : CutsTold (alone d) (record { layout = d; work = work; stores = 0 } ∷ record { layout = 48; work = work; stores = 1 } ∷ []) ((run y calls) .arena)
+  cuts-told : CutsTold (alone d) (record { layout = d; room = work; stores = 0 } ∷ record { layout = 48; room = work; stores = 1 } ∷ []) ((run y calls) .arena)
   cuts-told = (inl refl, (inr (refused-cut-layout _ work 1), tt))
 
 -- ---- the made arena
@@ -277,17 +294,19 @@ number = ap (makeNumber exhibitWanted) (length-replicate {A = ℕ} 49152 0) ∙ 
 pub made : FreshArena exhibitWanted (replicate 49152 0)
 made = making-claim .made exhibitWanted (replicate 49152 0) (zeroes 49152) (zeroes 16) (zeroes 16) number
 
-given : (d : ℕ) → Distance d → Given d exhibitFound exhibitWork exhibitBytes (replicate 512 0)
+given : (d : ℕ) → Distance d → Given d exhibitFound exhibitRoom exhibitShort exhibitBytes (replicate 512 0)
 given d w =
-    let u : 64 ≤ length exhibitWork = omega (arith, length-replicate {A = ℕ} 64 0) in
+    let n = length-replicate {A = ℕ} 64 0 in
     record {
       small = made-small exhibitWanted (replicate 49152 0) (zeroes 49152) (zeroes 16) (zeroes 16) number;
-      opens = made .opens d w .number exhibitWork u;
-      same = made .opens d w .arena exhibitWork;
+      opens = made .opens d w .number exhibitRoom (record { bytes = omega arith; records = omega arith });
+      same = made .opens d w .arena exhibitRoom;
       figures = made .figures;
       unwritten = map-words exhibitWanted (replicate 49152 0) (zeroes 49152) (zeroes 16) (zeroes 16) number d w;
-      room = u;
+      room = unfold freshFigures in (record { bytes = omega arith; records = omega arith });
       small-work = zeroes 64;
+      short-bytes = omega arith;
+      short-records = omega arith;
       size = λ l. length-replicate {A = ℕ} 512 (l + 1);
       small-bytes = λ l v. below-replicate 256 512 (l + 1) (omega arith);
       size-buffer = length-replicate {A = ℕ} 512 0;
@@ -297,19 +316,21 @@ given d w =
 pub exhibited : Exhibited
 exhibited d w = let k = given d w in record {
   small = k .small;
-  small-events = small-events d exhibitFound exhibitWork exhibitBytes (replicate 512 0) k;
+  small-events = small-events d exhibitFound exhibitRoom exhibitShort exhibitBytes (replicate 512 0) k;
   opens = k .opens;
-  one-buffer = one-buffer d exhibitFound exhibitWork exhibitBytes (replicate 512 0) k;
-  harmless = harmless d exhibitFound exhibitWork exhibitBytes (replicate 512 0) k;
-  listed = listed d exhibitFound exhibitWork exhibitBytes (replicate 512 0) k;
-  some-history = some-history d exhibitFound exhibitWork exhibitBytes (replicate 512 0) k;
-  finished = finished d exhibitFound exhibitWork exhibitBytes (replicate 512 0) k;
-  refused = refused d exhibitFound exhibitWork exhibitBytes (replicate 512 0) k;
-  tallies = tallies d exhibitFound exhibitWork exhibitBytes (replicate 512 0) k;
-  all-finished = ran-finished d exhibitFound exhibitWork exhibitBytes (replicate 512 0) k .book;
-  mended = mended d exhibitFound exhibitWork exhibitBytes (replicate 512 0) k;
-  cuts = cuts-told d exhibitFound exhibitWork exhibitBytes (replicate 512 0) k;
+  one-buffer = one-buffer d exhibitFound exhibitRoom exhibitShort exhibitBytes (replicate 512 0) k;
+  harmless = harmless d exhibitFound exhibitRoom exhibitShort exhibitBytes (replicate 512 0) k;
+  listed = listed d exhibitFound exhibitRoom exhibitShort exhibitBytes (replicate 512 0) k;
+  some-history = some-history d exhibitFound exhibitRoom exhibitShort exhibitBytes (replicate 512 0) k;
+  finished = finished d exhibitFound exhibitRoom exhibitShort exhibitBytes (replicate 512 0) k;
+  refused = refused d exhibitFound exhibitRoom exhibitShort exhibitBytes (replicate 512 0) k;
+  tallies = tallies d exhibitFound exhibitRoom exhibitShort exhibitBytes (replicate 512 0) k;
+  all-finished = ran-finished d exhibitFound exhibitRoom exhibitShort exhibitBytes (replicate 512 0) k .book;
+  mended = mended d exhibitFound exhibitRoom exhibitShort exhibitBytes (replicate 512 0) k;
+  past = past d exhibitFound exhibitRoom exhibitShort exhibitBytes (replicate 512 0) k 4 (omega arith);
+  short = few-records d exhibitFound exhibitRoom exhibitShort exhibitBytes (replicate 512 0) k;
+  cuts = cuts-told d exhibitFound exhibitRoom exhibitShort exhibitBytes (replicate 512 0) k;
   marked = rw (marked-is d exhibitFound)
-      (read-by-flags d exhibitFound exhibitWork (k .small) (k .opens) (k .same) (k .figures) (k .unwritten) (k .room));
-  sloppy = refused-sloppy d w exhibitFound exhibitWork (k .small) (k .opens) (k .same) (k .figures) (k .unwritten) (k .room);
+      (read-by-flags d exhibitFound exhibitRoom (k .small) (k .opens) (k .same) (k .figures) (k .unwritten) (k .room));
+  sloppy = refused-sloppy d w exhibitFound exhibitRoom (k .small) (k .opens) (k .same) (k .figures) (k .unwritten) (k .room);
 }

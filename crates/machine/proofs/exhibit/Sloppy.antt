@@ -26,14 +26,15 @@ use Rattle.layout.specs.declared.Figures.{Figures}
 use Rattle.layout.proofs.Allowed.{allowed-of}
 use Rattle.layout.proofs.Padding.{is-padding, padding-apart}
 use Rattle.machine.specs.Rules.{answer}
-use Rattle.machine.specs.state.Handle.{Handle, laneAt, laidOut, handleAllowed}
+use Rattle.machine.specs.state.Handle.{Handle, bareOf, laneAt, laidOut, handleAllowed, tableShort, recordsAllowed}
 use Rattle.machine.specs.state.Lane.{isBusy}
 use Rattle.machine.specs.state.Flog.{mapWord, paddingSet}
 use Rattle.machine.specs.calls.Order.{read, start, write}
 use Rattle.machine.specs.calls.Judging.{inFlight}
 use Rattle.machine.specs.calls.Reading.{readOf}
 use Rattle.machine.specs.calls.Writing.{startOf, writeOf}
-use Rattle.machine.specs.calls.Opening.{figuresIn, layoutIn, laneReadable, lanesLost, wordBad, wordSloppy, sloppy, openNumber, openOf}
+use Rattle.machine.specs.calls.Opening.{Room, extentOf, figuresIn, layoutIn, laneReadable, lanesLost, wordBad, wordSloppy, sloppy, openNumber, openOf}
+use Rattle.machine.specs.words.Valid.{RoomFor}
 use Rattle.machine.specs.claims.Exhibit.{RefusedSloppy}
 use Rattle.machine.proofs.rules.Rules.{stop, pass, through}
 use Rattle.machine.proofs.rules.Running.{call-walk}
@@ -42,7 +43,7 @@ use Rattle.machine.proofs.opening.Found.{lane-readable}
 use Rattle.machine.proofs.opening.Opens.{opened-distance, opened-figures, opened-idle}
 use Rattle.machine.proofs.invariant.Inv.{lane-frame}
 use Rattle.machine.proofs.invariant.Good.{Good, good-figures, good-open}
-use Rattle.machine.proofs.invariant.Held.{held-open, held-allowed, lanes-in, lanes-out}
+use Rattle.machine.proofs.invariant.Held.{Held, held-open, held-allowed, held-short, held-records, lanes-in, lanes-out}
 use Rattle.machine.proofs.calls.Running.{word-idle}
 
 abbrev f : Figures
@@ -53,30 +54,43 @@ module _ (d : ℕ) (w : Distance d) where
   g = layoutOf d f
 
   -- an opening that passes all rules before 18
-  eighteen : (b : List ℕ) (room : ℕ) → Described (alone d) b → figuresIn b ≡ f → lanesLost g b ≡ false → wordBad g b ≡ false → sloppy g b ≡ true
-      → 64 ≤ room → openNumber (alone d) b room ≡ 18
+  eighteen : (b : List ℕ) (work : Room) → Described (alone d) b → figuresIn b ≡ f → lanesLost g b ≡ false → wordBad g b ≡ false → sloppy g b ≡ true
+      → RoomFor f work → openNumber (alone d) b (extentOf work) ≡ 18
   unfolding openNumber answer layoutOf freshFigures
-  eighteen b room k e lanes words found u = rw (k .layout, k .size, k .block, k .allowed, k .flags, e, le-ltb room 64 u, lanes, words, found)
+  eighteen b work k e lanes words found room =
+      rw (
+        k .layout,
+        k .size,
+        k .block,
+        k .allowed,
+        k .flags,
+        e,
+        le-ltb (length (work .work)) 64 (room .bytes),
+        le-ltb (length (work .table)) 4 (room .records),
+        lanes,
+        words,
+        found,
+      )
 
-  module _ (a work : List ℕ) (small : Small a) (opens : (openOf (alone d) a work) .number ≡ 0) (same : (openOf (alone d) a work) .arena ≡ a)
-      (figures : figuresIn a ≡ f) (unwritten : (s : ℕ) → s < 60 → mapWord (layoutIn (alone d) a) a s ≡ 0) (room : 64 ≤ length work) where
+  module _ (a : List ℕ) (work : Room) (small : Small a) (opens : (openOf (alone d) a work) .number ≡ 0) (same : (openOf (alone d) a work) .arena ≡ a)
+      (figures : figuresIn a ≡ f) (unwritten : (s : ℕ) → s < 60 → mapWord (layoutIn (alone d) a) a s ≡ 0) (room : RoomFor f work) where
     abbrev h : Handle
     h = (openOf (alone d) a work) .handle
 
-    good : Good (alone d) a d f (h .lanes)
+    good : Good (alone d) a d f (h .table)
     good = rw (opened-distance (alone d) a work opens, opened-figures (alone d) a work opens ∙ figures, same) at
         (good-open (alone d) a work small opens)
 
     word-0 : (s : ℕ) → s < 60 → mapWord g a s ≡ 0
     word-0 s u = rw figures at (unwritten s u)
 
-    idle : (l : ℕ) → l < g .N → isBusy (laneAt (h .lanes) l) ≡ false
-    idle l u = word-idle (laneAt (h .lanes) l)
+    idle : (l : ℕ) → l < g .N → isBusy (laneAt (h .table) l) ≡ false
+    idle l u = word-idle (laneAt (h .table) l)
         (opened-idle (alone d) a work opens l (rw (opened-figures (alone d) a work opens, figures) (lanes-out d f l u)))
 
     size-is : length a ≡ 49152
     unfolding freshFigures internalOf
-    size-is = sym (allowed-of f (length a) (good-figures (alone d) a d f (h .lanes) good) .copy-start)
+    size-is = sym (allowed-of f (length a) (good-figures (alone d) a d f (h .table) good) .copy-start)
 
     -- ---- with word p stored, between the info blocks and in no half
 
@@ -100,13 +114,13 @@ module _ (d : ℕ) (w : Distance d) where
       same-figures = ap figuresOf info ∙ figures
 
       lanes : lanesLost g b ≡ false
-      lanes = rw (every-intro (g .N) (laneReadable g b) (λ l u. lane-readable g b l (laneAt (h .lanes) l)
-          (lane-frame g a b l (λ x k c e. word-putWord-other a p (at g (inFlog l x k)) v (away l x k u c e)) (laneAt (h .lanes) l)
+      lanes = rw (every-intro (g .N) (laneReadable g b) (λ l u. lane-readable g b l (laneAt (h .table) l)
+          (lane-frame g a b l (λ x k c e. word-putWord-other a p (at g (inFlog l x k)) v (away l x k u c e)) (laneAt (h .table) l)
           (λ t. true-false (sym t ∙ idle l u)) (good .inv .lane l u))))
 
       refuses : wordBad g b ≡ false → sloppy g b ≡ true → (openOf (alone d) b work) .number ≡ 18
       unfolding openOf
-      refuses words found = eighteen b (length work) described same-figures lanes words found room
+      refuses words found = eighteen b work described same-figures lanes words found room
 
     -- ---- 5 as the map word of sector 7
 
@@ -152,15 +166,24 @@ module _ (d : ℕ) (w : Distance d) where
 
     -- ---- through the handle that opening the arena gave
 
-    -- rule 16 asks for the length (alone d)
-    allowed : (p v : ℕ) → handleAllowed h (length (putWord a p v)) ≡ true
-    allowed p v = rw (length-putWord a p v) (rw same at (held-allowed (alone d) _ h (held-open (alone d) a work small opens)))
+    held : Held (alone d) ((openOf (alone d) a work) .arena) h
+    held = held-open (alone d) a work small opens
+
+    -- of the arena rules 16 and 21 ask for the length alone
+    allowed : (p v : ℕ) → handleAllowed (bareOf h) (length (putWord a p v)) ≡ true
+    allowed p v = rw (length-putWord a p v) (rw same at (held-allowed (alone d) _ h held))
+
+    long : tableShort h ≡ false
+    long = held-short (alone d) _ h held
+
+    records : recordsAllowed h ≡ true
+    records = held-records (alone d) _ h held
 
     figures-of : h .figures ≡ f
     figures-of = opened-figures (alone d) a work opens ∙ figures
 
     -- no lane has a sector in flight
-    none-flies : (s : ℕ) → inFlight (h .lanes) (h .figures .lanes) s ≡ false
+    none-flies : (s : ℕ) → inFlight (h .table) (h .figures .lanes) s ≡ false
     unfolding inFlight
     none-flies s = some-intro (h .figures .lanes) _ (λ l u. rw (idle l (lanes-in d f l (rw figures-of at u))))
 
@@ -173,18 +196,18 @@ module _ (d : ℕ) (w : Distance d) where
     read-refused : (buffer : List ℕ) → length buffer ≡ 512 → (readOf worded h 7 buffer) .number ≡ 18
     unfolding readOf freshFigures
     read-refused buffer size = sym (call-walk worded h (read 7 buffer)
-        (pass (rw (allowed 9223 5)) (pass (rw figures-of) (pass (rw (figures-of, eq-eqb (length buffer) 512 size)) (pass word-bad (stop word-sloppy))))))
+        (pass (rw (allowed 9223 5)) (pass long (pass (rw records) (pass (rw figures-of) (pass (rw (figures-of, eq-eqb (length buffer) 512 size)) (pass word-bad (stop word-sloppy))))))))
 
     start-refused : (startOf worded h 0 7) .number ≡ 18
     unfolding startOf freshFigures layoutOf
     start-refused = sym (call-walk worded h (start 0 7)
-        (pass (rw (allowed 9223 5)) (pass (rw figures-of) (pass (idle 0 (omega arith)) (pass (rw figures-of) (pass (none-flies 7) (pass word-bad (stop word-sloppy))))))))
+        (pass (rw (allowed 9223 5)) (pass long (pass (rw records) (pass (rw figures-of) (pass (idle 0 (omega arith)) (pass (rw figures-of) (pass (none-flies 7) (pass word-bad (stop word-sloppy))))))))))
 
     write-refused : (buffer : List ℕ) → length buffer ≡ 512 → (writeOf worded h 0 7 buffer) .number ≡ 18
     unfolding writeOf freshFigures layoutOf
     write-refused buffer size = sym (call-walk worded h (write 0 7 buffer)
-        (pass (rw (allowed 9223 5)) (pass (rw figures-of) (pass (idle 0 (omega arith)) (pass (rw figures-of)
-        (pass (rw (figures-of, eq-eqb (length buffer) 512 size)) (pass (none-flies 7) (pass word-bad (stop word-sloppy)))))))))
+        (pass (rw (allowed 9223 5)) (pass long (pass (rw records) (pass (rw figures-of) (pass (idle 0 (omega arith)) (pass (rw figures-of)
+        (pass (rw (figures-of, eq-eqb (length buffer) 512 size)) (pass (none-flies 7) (pass word-bad (stop word-sloppy)))))))))))
 
     -- padding is not looked at
     padded-0 : mapWord (laidOut h) padded 7 ≡ 0
@@ -193,8 +216,8 @@ module _ (d : ℕ) (w : Distance d) where
     padded-read : (buffer : List ℕ) → length buffer ≡ 512 → (readOf padded h 7 buffer) .number ≡ 0
     unfolding readOf freshFigures
     padded-read buffer size = sym (call-walk padded h (read 7 buffer)
-        (pass (rw (allowed 10303 0x01000000)) (pass (rw figures-of) (pass (rw (figures-of, eq-eqb (length buffer) 512 size))
-        (pass (rw padded-0) (pass (rw padded-0) (pass (rw padded-0) through)))))))
+        (pass (rw (allowed 10303 0x01000000)) (pass long (pass (rw records) (pass (rw figures-of) (pass (rw (figures-of, eq-eqb (length buffer) 512 size))
+        (pass (rw padded-0) (pass (rw padded-0) (pass (rw padded-0) through)))))))))
 
     pub refused-sloppy : RefusedSloppy d worded padded work h
     refused-sloppy = record {

@@ -7,7 +7,7 @@ use borrow.Author.Tests.{ne-eqb}
 use Rattle.layout.specs.Told.{inLayout}
 use Rattle.layout.specs.declared.Told.{Told}
 use Rattle.machine.specs.state.Handle.{Handle}
-use Rattle.machine.specs.calls.Opening.{openOf}
+use Rattle.machine.specs.calls.Opening.{Room, openOf}
 use Rattle.machine.specs.calls.History.{runs, says, Call, read, start, step, write, State, Reply, run, reply, replies, after, called, opened, afterEvent, replyEvent, runEvents, replyEvents}
 use Rattle.machine.specs.calls.Asides.{Happening, latest, aside, tried, shortened, latestOf, callsOf, afterOne, Harmless, AllHarmless, AllRefused, heard, heardCalls}
 use Rattle.machine.specs.claims.DemandThree.{BesideList}
@@ -24,14 +24,14 @@ module _ (τ : Told) where
   aside-same x h (write l s buffer) u = λ j. record { arena = running-claim .write-refused (x .arena) h l s buffer u .arena j; handle = x .handle }
 
   -- and so do a refused opening and a refused cut opening in any layout
-  tried-same : (x : State) (d : ℕ) (work : List ℕ) → Harmless τ x (tried d work) → afterOne τ x (tried d work) ≡ x
+  tried-same : (x : State) (d : ℕ) (work : Room) → Harmless τ x (tried d work) → afterOne τ x (tried d work) ≡ x
   tried-same x d work u = λ j. record { arena = opening-claim (inLayout τ d) .refused (x .arena) work u .arena j; handle = x .handle }
 
-  shortened-same : (x : State) (d : ℕ) (work : List ℕ) (k : ℕ) → Harmless τ x (shortened d work k) → afterOne τ x (shortened d work k) ≡ x
+  shortened-same : (x : State) (d : ℕ) (work : Room) (k : ℕ) → Harmless τ x (shortened d work k) → afterOne τ x (shortened d work k) ≡ x
   shortened-same x d work k u = λ j. record { arena = cut-none (inLayout τ d) (x .arena) work k u j; handle = x .handle }
 
   -- a refused opening in the handle's layout leaves both
-  opened-same : (x : State) (work : List ℕ) → (openOf τ (x .arena) work) .number ≢ 0 → afterEvent τ x (opened work) ≡ x
+  opened-same : (x : State) (work : Room) → (openOf τ (x .arena) work) .number ≢ 0 → afterEvent τ x (opened work) ≡ x
   opened-same x work n = rw (ne-eqb ((openOf τ (x .arena) work) .number) 0 n)
 
   -- a history is that of its events through the latest handle

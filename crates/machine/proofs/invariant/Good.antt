@@ -19,7 +19,7 @@ use Rattle.machine.specs.declared.lane.Lane.{Lane}
 use Rattle.machine.specs.state.Lane.{laneAllowed, isBusy}
 use Rattle.machine.specs.state.Handle.{laneAt}
 use Rattle.machine.specs.state.Stores.{Store, stored, putAll}
-use Rattle.machine.specs.calls.Opening.{figuresIn, layoutIn, openOf, handleFor}
+use Rattle.machine.specs.calls.Opening.{Room, figuresIn, layoutIn, openOf, handleFor, extentOf}
 use Rattle.machine.proofs.stores.Members.{each-one}
 use Rattle.machine.proofs.stores.Stores.{putAll-one, putAll-none}
 use Rattle.machine.proofs.invariant.Inv.{LaneInv, Inv}
@@ -28,10 +28,11 @@ use Rattle.machine.proofs.opening.Mends.{length-mends}
 use Rattle.machine.proofs.opening.Ghosts.{opened-inv}
 use Rattle.machine.proofs.opening.Consistent.{inv-consistent}
 use Rattle.machine.proofs.opening.Described.{Described, described-same, info-kept}
-use Rattle.machine.proofs.opening.Opens.{Opens, open-zero, zero-open, opens-consistent, consistent-opens}
+use Rattle.machine.proofs.opening.Opens.{Opens, open-zero, zero-open, opens-consistent, consistent-opens, enough-for}
 use Rattle.machine.proofs.opening.Kept.{kept-info, kept-opens}
 use Rattle.machine.proofs.calls.Rule16.{lane-last}
 use Rattle.layout.specs.declared.Told.{Told}
+use Rattle.machine.specs.words.Valid.{RoomFor}
 
 -- ---- rule 16 does not apply
 
@@ -73,13 +74,10 @@ module _ (τ : Told) where
     pub good-opens : Opens τ a
     good-opens = consistent-opens τ a (k .info) (rw (k .distance, k .figures) (inv-consistent (layoutOf d f) a lanes (k .inv)))
 
-    module _ (work : List ℕ) (room : f .blocks ≤ length work) where
+    module _ (work : Room) (room : RoomFor f work) where
       pub good-number : (openOf τ a work) .number ≡ 0
       unfolding openOf
-      good-number = zero-open τ a (length work) good-opens (rw (k .distance, k .figures) (blocks-in room))
-        where
-          blocks-in : f .blocks ≤ length work → (layoutOf d f) .I ≤ length work
-          blocks-in u = unfold layoutOf in u
+      good-number = zero-open τ a (extentOf work) good-opens (enough-for τ a work (rw (k .figures) room))
 
       pub good-arena : (openOf τ a work) .arena ≡ putAll (layoutOf d f) (finals (layoutOf d f) lanes ((layoutOf d f) .N)) a
       unfolding openOf
@@ -103,11 +101,11 @@ module _ (τ : Told) where
         idle-count = good-count ∙ ap length none
 
   -- what an accepted opening gives
-  pub good-open : (a work : List ℕ) → Small a → (openOf τ a work) .number ≡ 0
-      → Good τ ((openOf τ a work) .arena) ((openOf τ a work) .handle .distance) ((openOf τ a work) .handle .figures) ((openOf τ a work) .handle .lanes)
+  pub good-open : (a : List ℕ) (work : Room) → Small a → (openOf τ a work) .number ≡ 0
+      → Good τ ((openOf τ a work) .arena) ((openOf τ a work) .handle .distance) ((openOf τ a work) .handle .figures) ((openOf τ a work) .handle .table)
   unfolding openOf handleFor
   good-open a work small e =
-      let o = open-zero τ a (length work) e .0 in
+      let o = open-zero τ a (extentOf work) e .0 in
       let g = layoutIn τ a in
       let all : g .N ≤ g .N = omega arith in
       rw e
@@ -115,5 +113,5 @@ module _ (τ : Told) where
         info = kept-opens τ a o small (g .N) all .info;
         distance = refl;
         figures = ap figuresOf (kept-info τ a o small (g .N) all);
-        inv = opened-inv g a (opens-consistent τ a o small);
+        inv = opened-inv g a (opens-consistent τ a o small) (work .table) (open-zero τ a (extentOf work) e .1 .records);
       })

@@ -1,14 +1,14 @@
 -- What every call through a good handle keeps, accepted or refused: start, step and whole write leave an arena and a handle that are
--- good again. Rules 16, 7 and 18 never apply to such a handle.
+-- good again. Rules 16, 21, 7 and 18 never apply to such a handle.
 use mathlib.Core.Path.{_≡_, refl, sym, _∙_}
 use mathlib.Core.Logic.{_≢_}
 use mathlib.Core.List.{List}
 use mathlib.Core.Bool.{Bool, true, false, cond, _&&_}
-use Prim.Native.Nat.{ℕ, zero, suc, _*_, _<_}
+use Prim.Native.Nat.{ℕ, zero, suc, _*_, _<_, _≤_}
 use native.Mathlib.Omega.{arith}
 use lib.Dec.{eqb}
 use lib.ListN.{length}
-use borrow.Author.Tests.{eqb-true, eq-eqb}
+use borrow.Author.Tests.{eqb-true, eq-eqb, le-ltb}
 use Rattle.words.proofs.Laws.{length-putWord}
 use Rattle.words.specs.Bytes.{Small}
 use Rattle.format.specs.MapWord.{badWord, sloppyWord}
@@ -18,11 +18,11 @@ use Rattle.layout.specs.Place.{layoutOf, at}
 use Rattle.layout.specs.declared.Figures.{Figures}
 use Rattle.layout.proofs.Allowed.{allowed-of, size-words}
 use Rattle.machine.specs.declared.lane.Lane.{Lane}
-use Rattle.machine.specs.state.Handle.{Handle, laneAt, handleAllowed, withLane, laidOut}
+use Rattle.machine.specs.state.Handle.{Handle, bareOf, laneAt, handleAllowed, recordsAllowed, withLane, laidOut, tableShort}
 use Rattle.machine.specs.state.Lane.{laneAllowed, startedLane, writeStores, isBusy}
 use Rattle.machine.specs.state.Stores.{Store, stored}
 use Rattle.machine.specs.state.Flog.{mapWord, mapBlock}
-use Rattle.machine.specs.calls.Opening.{openOf, handleFor, layoutIn, mends}
+use Rattle.machine.specs.calls.Opening.{Room, openOf, handleFor, layoutIn, mends}
 use Rattle.machine.specs.calls.Judging.{inFlight}
 use Rattle.machine.specs.calls.Writing.{
   planOf,
@@ -80,7 +80,7 @@ module _ (τ : Told) where
   -- the handle of the arena: made for its length, with its figures and records that agree with it
   pub record Held (a : List ℕ) (h : Handle) : Type 0 where
     pub size : h .length ≡ length a
-    pub good : Good τ a (h .distance) (h .figures) (h .lanes)
+    pub good : Good τ a (h .distance) (h .figures) (h .table)
 
   -- an arena and a handle after a call
   abbrev HeldAfter : Outcome → Type 0
@@ -88,20 +88,32 @@ module _ (τ : Told) where
 
 module _ (τ : Told) where
   -- an accepted opening gives one
-  pub held-open : (a work : List ℕ) → Small a → (openOf τ a work) .number ≡ 0 → Held τ ((openOf τ a work) .arena) ((openOf τ a work) .handle)
+  pub held-open : (a : List ℕ) (work : Room) → Small a → (openOf τ a work) .number ≡ 0 → Held τ ((openOf τ a work) .arena) ((openOf τ a work) .handle)
   held-open a work small e = record { size = same e; good = good-open τ a work small e }
     where
       same : (openOf τ a work) .number ≡ 0 → (openOf τ a work) .handle .length ≡ length ((openOf τ a work) .arena)
       same d = unfold openOf handleFor in (rw d (sym (putAll-length (layoutIn τ a) (mends (layoutIn τ a) a ((layoutIn τ a) .N)) a)))
 
-  -- ---- rules 16, 7 and 18 never apply
+  -- ---- rules 16, 21, 7 and 18 never apply
 
   module _ (a : List ℕ) (h : Handle) (k : Held τ a h) where
-    pub held-allowed : handleAllowed h (length a) ≡ true
+    pub held-allowed : handleAllowed (bareOf h) (length a) ≡ true
     held-allowed =
-        sym (handle-last h (length a) (k .good .info .size) (k .size) (rw (k .good .distance) at (k .good .info .layout)) (good-figures τ a (h .distance) (h .figures) (h .lanes) (k .good)))
-        ∙ every-intro (h .figures .lanes) (λ l. laneAllowed (laidOut h) (laneAt (h .lanes) l))
-        (λ l u. lane-allowed (laidOut h) a l (laneAt (h .lanes) l) (k .good .inv .lane l (lanes-in (h .distance) (h .figures) l u)))
+        sym (handle-last (bareOf h) (length a) (k .good .info .size) (k .size) (rw (k .good .distance) at (k .good .info .layout)))
+        ∙ good-figures τ a (h .distance) (h .figures) (h .table) (k .good)
+
+    pub held-long : h .figures .lanes ≤ length (h .table)
+    unfolding layoutOf
+    held-long = k .good .inv .long
+
+    pub held-short : tableShort h ≡ false
+    unfolding tableShort
+    held-short = le-ltb (length (h .table)) (h .figures .lanes) held-long
+
+    pub held-records : recordsAllowed h ≡ true
+    unfolding recordsAllowed
+    held-records = every-intro (h .figures .lanes) (λ l. laneAllowed (laidOut h) (laneAt (h .table) l))
+        (λ l u. lane-allowed (laidOut h) a l (laneAt (h .table) l) (k .good .inv .lane l (lanes-in (h .distance) (h .figures) l u)))
 
     pub held-word : (s : ℕ) → s < h .figures .sectors → badWord (h .figures .blocks) (mapWord (laidOut h) a s) ≡ false
     held-word s u =
@@ -115,7 +127,7 @@ module _ (τ : Told) where
     pub held-whole : h .figures .size ≡ 4 * (laidOut h) .W
     unfolding layoutOf
     held-whole =
-        let z = size-words (h .figures) (length a) (allowed-of (h .figures) (length a) (good-figures τ a (h .distance) (h .figures) (h .lanes) (k .good))) in
+        let z = size-words (h .figures) (length a) (allowed-of (h .figures) (length a) (good-figures τ a (h .distance) (h .figures) (h .table) (k .good))) in
         omega (arith, z .0)
 
   -- ---- the calls
@@ -125,7 +137,7 @@ module _ (τ : Told) where
   good-start a h l s k = go (eqb (startNumber a h l s) 0) (λ t. eqb-true _ _ t)
     where
       go : (t : Bool) → (t ≡ true → startNumber a h l s ≡ 0)
-          → Held τ a (cond t (withLane h l (startedLane (laneAt (h .lanes) l) s (mapBlock (laidOut h) a s))) h)
+          → Held τ a (cond t (withLane h l (startedLane (laneAt (h .table) l) s (mapBlock (laidOut h) a s))) h)
       go true f =
           let d = start-found a h l s (f refl) in
           record {
@@ -134,8 +146,8 @@ module _ (τ : Told) where
               info = k .good .info;
               distance = k .good .distance;
               figures = k .good .figures;
-              inv = start-inv (laidOut h) a (h .lanes) l s (k .good .inv) (lanes-in (h .distance) (h .figures) l (d .lane)) (d .idle)
-                  (sectors-in (h .distance) (h .figures) s (d .sector)) (λ j u. not-flying (h .lanes) (h .figures .lanes) s (d .free) j (lanes-out (h .distance) (h .figures) j u));
+              inv = start-inv (laidOut h) a (h .table) l s (k .good .inv) (lanes-in (h .distance) (h .figures) l (d .lane)) (d .idle)
+                  (sectors-in (h .distance) (h .figures) s (d .sector)) (λ j u. not-flying (h .table) (h .figures .lanes) s (d .free) j (lanes-out (h .distance) (h .figures) j u));
             };
           }
       go false f = k
@@ -145,10 +157,10 @@ module _ (τ : Told) where
   good-step a h l buffer small k = go (eqb (stepNumber a h l buffer) 0) (λ t. eqb-true _ _ t)
     where
       st : Store
-      st = storeAt (laidOut h) (planOf l (laneAt (h .lanes) l)) buffer ((laneAt (h .lanes) l) .made)
+      st = storeAt (laidOut h) (planOf l (laneAt (h .table) l)) buffer ((laneAt (h .table) l) .made)
 
       go : (t : Bool) → (t ≡ true → stepNumber a h l buffer ≡ 0)
-          → Held τ (cond t (stored (laidOut h) st a) a) (cond t (withLane h l (laneStored (laidOut h) (laneAt (h .lanes) l))) h)
+          → Held τ (cond t (stored (laidOut h) st a) a) (cond t (withLane h l (laneStored (laidOut h) (laneAt (h .table) l))) h)
       go true f =
           let d = step-found a h l buffer (f refl) in
           let g = laidOut h in
@@ -156,8 +168,8 @@ module _ (τ : Told) where
           let i = k .good .inv in
           record {
             size = k .size ∙ sym (length-putWord a (at g (st .place)) (st .value));
-            good = good-stored τ a (h .distance) (h .figures) (h .lanes) (k .good) st (store-range g _ (plan-ok g a (h .lanes) l i u) buffer _ (i .lane l u .made-in)) _
-                (step-inv g a (h .lanes) l i u (d .busy) buffer small);
+            good = good-stored τ a (h .distance) (h .figures) (h .table) (k .good) st (store-range g _ (plan-ok g a (h .table) l i u) buffer _ (i .lane l u .made-in)) _
+                (step-inv g a (h .table) l i u (d .busy) buffer small);
           }
       go false f = k
 

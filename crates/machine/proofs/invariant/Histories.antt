@@ -10,7 +10,7 @@ use borrow.Author.Tests.{eqb-true}
 use Rattle.words.proofs.Laws.{length-putWord}
 use Rattle.words.specs.Bytes.{Small}
 use Rattle.format.proofs.Tests.{by-bool}
-use Rattle.machine.specs.calls.Opening.{figuresIn, layoutIn, mends, openOf}
+use Rattle.machine.specs.calls.Opening.{Room, figuresIn, layoutIn, mends, openOf}
 use Rattle.machine.specs.calls.Writing.{startNumber, startOf, stepNumber, stepOf, stepsOf, writeNumber, writeOf}
 use Rattle.machine.specs.calls.History.{
   runs,
@@ -102,7 +102,7 @@ module _ (τ : Told) where
   -- ---- openings
 
   -- an opening gives its arena and handle if it is accepted, and else leaves both
-  pub opening-cases : (x : State) (work : List ℕ) (P : State → Type 0)
+  pub opening-cases : (x : State) (work : Room) (P : State → Type 0)
       → ((openOf τ (x .arena) work) .number ≡ 0 → P (openedState (openOf τ (x .arena) work))) → P x → P (afterEvent τ x (opened work))
   opening-cases x work P new old = go (eqb ((openOf τ (x .arena) work) .number) 0) (eqb-true _ _)
     where
@@ -110,7 +110,7 @@ module _ (τ : Told) where
       go true f = new (f refl)
       go false f = old
 
-  pub alike-open : (x : State) (work : List ℕ) → HeldIn τ x → (openOf τ (x .arena) work) .number ≡ 0 → Alike x (openedState (openOf τ (x .arena) work))
+  pub alike-open : (x : State) (work : Room) → HeldIn τ x → (openOf τ (x .arena) work) .number ≡ 0 → Alike x (openedState (openOf τ (x .arena) work))
   unfolding openOf
   alike-open x work k e =
       let g = layoutIn τ (x .arena) in

@@ -1,16 +1,16 @@
 -- Lists of lane records: the records of the lanes below n, one by one, and the invariant of records that agree below the lanes.
 use mathlib.Core.Path.{_≡_, refl, sym, ap, ap₂, _∙_}
 use mathlib.Core.List.{List, [], _∷_, _++_, append-assoc, append-nil}
-use Prim.Native.Nat.{ℕ, zero, suc, _≤_, _<_}
+use Prim.Native.Nat.{ℕ, zero, suc, _+_, _-_, _≤_, _<_}
 use native.Mathlib.Omega.{arith}
 use native.Mathlib.Decide.{ℕ-discrete}
-use lib.ListN.{length, length-append}
-use lib.Seq.{getD-at}
+use lib.ListN.{length, drop, length-append, length-drop}
+use lib.Seq.{getD-at, getD-append-add, getD-drop}
 use Rattle.layout.specs.Place.{Layout}
 use Rattle.machine.specs.declared.lane.Lane.{Lane}
 use Rattle.machine.specs.state.Lane.{noLane}
 use Rattle.machine.specs.state.Handle.{laneAt}
-use Rattle.machine.specs.calls.Opening.{foundLane, foundLanes}
+use Rattle.machine.specs.calls.Opening.{foundLane, foundLanes, filled}
 use Rattle.machine.proofs.stores.Once.{once-same}
 use Rattle.machine.proofs.invariant.Inv.{Inv}
 
@@ -52,6 +52,23 @@ found-length g a n = ap length (found-listed g a n) ∙ listed-length (foundLane
 
 pub found-lane-at : (g : Layout) (a : List ℕ) (n l : ℕ) → l < n → laneAt (foundLanes g a n) l ≡ foundLane g a l
 found-lane-at g a n l u = rw (found-listed g a n) (lane-listed (foundLane g a) n l u)
+
+-- ---- a table with the lanes' records put in
+
+pub filled-lane : (g : Layout) (a : List ℕ) (table : List Lane) (l : ℕ) → l < g .N → laneAt (filled g a table) l ≡ foundLane g a l
+filled-lane g a table l u = rw (found-listed g a (g .N)) (listed-at (foundLane g a) (g .N) l (drop (g .N) table) u)
+
+pub filled-past : (g : Layout) (a : List ℕ) (table : List Lane) (l : ℕ) → g .N ≤ l → laneAt (filled g a table) l ≡ laneAt table l
+filled-past g a table l u =
+    let n = found-length g a (g .N) in
+    let e : length (foundLanes g a (g .N)) + (l - g .N) ≡ l = omega (arith, n) in
+    let f : g .N + (l - g .N) ≡ l = omega arith in
+    ap (laneAt (filled g a table)) (sym e) ∙ getD-append-add (foundLanes g a (g .N)) (drop (g .N) table) (l - g .N) noLane
+    ∙ getD-drop (g .N) table (l - g .N) noLane ∙ ap (laneAt table) f
+
+pub filled-length : (g : Layout) (a : List ℕ) (table : List Lane) → g .N ≤ length table → length (filled g a table) ≡ length table
+filled-length g a table u =
+    length-append (foundLanes g a (g .N)) (drop (g .N) table) ∙ rw (found-length g a (g .N), length-drop (g .N) table) (omega arith)
 
 -- the invariant reads the records of the lanes alone
 pub inv-same : (g : Layout) (a : List ℕ) (lanes lanes′ : List Lane) → g .N ≤ length lanes′

@@ -24,16 +24,16 @@ use Rattle.infoblock.proofs.InfoBlock.{length-of, info-in, counting-main}
 use Rattle.machine.specs.state.Lane.{idleLane}
 use Rattle.machine.specs.state.Handle.{laneAt}
 use Rattle.machine.specs.calls.Making.{dataEnd, tailWords}
-use Rattle.machine.specs.calls.Opening.{figuresIn, layoutIn, openNumber, openOf}
+use Rattle.machine.specs.calls.Opening.{Room, Extent, extentOf, figuresIn, layoutIn, openNumber, openOf}
 use Rattle.infoblock.specs.Claims.{Sound}
 use Rattle.machine.specs.words.InBytes.{laneByte}
 use Rattle.machine.specs.words.Valid.{InfoOk, Clean, Valid}
 use Rattle.machine.proofs.stores.Offsets.{map-word}
-use Rattle.machine.proofs.opening.Opens.{zero-open, opened-lane}
+use Rattle.machine.proofs.opening.Opens.{Enough, zero-open, opened-lane}
 use Rattle.machine.proofs.opening.Reflect.{length-ok}
 use Rattle.machine.proofs.opening.Answers.{valid-opens}
 use Rattle.machine.proofs.making.FreshMap.{Fresh, lane-fresh, pending-none, mended-same, readable, no-bad-word, settled}
-use Rattle.machine.proofs.making.FreshWords.{made, Room, made-length, made-fresh, made-kept, made-bytes, main-length, main-word, made-copy}
+use Rattle.machine.proofs.making.FreshWords.{made, Room as MadeRoom, made-length, made-fresh, made-kept, made-bytes, main-length, main-word, made-copy}
 use Rattle.machine.proofs.making.FreshBytes.{fresh-lane}
 use Rattle.layout.specs.Told.{alone}
 
@@ -57,7 +57,7 @@ module _ (first second : List ℕ) (f : Figures) (a : List ℕ) (d : Given first
   abbrev m : List ℕ
   m = madeOf first second f a
 
-  rooms : (t : ℕ) → Distance t → Room (layoutOf t f) a (infoWords first second f)
+  rooms : (t : ℕ) → Distance t → MadeRoom (layoutOf t f) a (infoWords first second f)
   rooms t w =
       let most : length a ≤ 16777216 = length-of (length a) (d .size) .2 in
       record {
@@ -67,7 +67,7 @@ module _ (first second : List ℕ) (f : Figures) (a : List ℕ) (d : Given first
         below = info-below first second f (d .first-ok .bytes) (d .second-ok .bytes) (allowed-fits f (length a) (d .ok) most);
       }
 
-  pub room : Room (layoutOf 16 f) a (infoWords first second f)
+  pub room : MadeRoom (layoutOf 16 f) a (infoWords first second f)
   room = rooms 16 (inl refl)
 
   pub same-length : length m ≡ length a
@@ -166,21 +166,21 @@ module _ (first second : List ℕ) (f : Figures) (a : List ℕ) (d : Given first
       settled = settled (layoutIn (alone t) m) m fresh;
     }
 
-    pub opens : (room : ℕ) → (layoutIn (alone t) m) .I ≤ room → openNumber (alone t) m room ≡ 0
+    pub opens : (room : Extent) → Enough (alone t) m room → openNumber (alone t) m room ≡ 0
     opens room h = zero-open (alone t) m room (valid-opens (alone t) m small-in valid) h
 
     -- none mended and no byte changed, whether or not there is room
-    pub opened-mended : (work : List ℕ) → (openOf (alone t) m work) .mended ≡ 0
+    pub opened-mended : (work : Room) → (openOf (alone t) m work) .mended ≡ 0
     unfolding openOf
     opened-mended work =
-        rw (pending-none (layoutIn (alone t) m) m fresh) (same (eqb (openNumber (alone t) m (length work)) 0) 0)
+        rw (pending-none (layoutIn (alone t) m) m fresh) (same (eqb (openNumber (alone t) m (extentOf work)) 0) 0)
 
-    pub opened-arena : (work : List ℕ) → (openOf (alone t) m work) .arena ≡ m
+    pub opened-arena : (work : Room) → (openOf (alone t) m work) .arena ≡ m
     unfolding openOf
     opened-arena work =
-        rw (mended-same (layoutIn (alone t) m) m fresh) (same (eqb (openNumber (alone t) m (length work)) 0) m)
+        rw (mended-same (layoutIn (alone t) m) m fresh) (same (eqb (openNumber (alone t) m (extentOf work)) 0) m)
 
-    pub opened-fresh : (work : List ℕ) (l : ℕ) → (layoutIn (alone t) m) .I ≤ length work → l < (layoutIn (alone t) m) .N
-        → laneAt ((openOf (alone t) m work) .handle .lanes) l ≡ idleLane ((layoutIn (alone t) m) .E + l) 1 2
+    pub opened-fresh : (work : Room) (l : ℕ) → Enough (alone t) m (extentOf work) → l < (layoutIn (alone t) m) .N
+        → laneAt ((openOf (alone t) m work) .handle .table) l ≡ idleLane ((layoutIn (alone t) m) .E + l) 1 2
     opened-fresh work l h u =
-        opened-lane (alone t) m work (unfold openOf in (opens (length work) h)) l u ∙ lane-fresh (layoutIn (alone t) m) m fresh l u
+        opened-lane (alone t) m work (unfold openOf in (opens (extentOf work) h)) l u ∙ lane-fresh (layoutIn (alone t) m) m fresh l u

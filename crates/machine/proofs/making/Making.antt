@@ -35,10 +35,10 @@ use Rattle.machine.specs.calls.Making.{
   freshArena,
   dataEnd,
 }
-use Rattle.machine.specs.calls.Opening.{layoutIn, openOf, mended}
+use Rattle.machine.specs.calls.Opening.{layoutIn, openOf, mended, Room, extentOf}
 use Rattle.layout.specs.Claims.{Distance}
 use Rattle.machine.specs.words.Valid.{HoldsMake, AnswersMake}
-use Rattle.machine.specs.claims.Making.{WantedOk, FreshLane, FreshBytes, FreshOpens, FreshArena, smallest, MakingClaim}
+use Rattle.machine.specs.claims.Making.{WantedOk, FreshLane, FreshBytes, FreshOpens, FreshArena, smallest, MakingClaim, FreshRoom}
 use Rattle.machine.proofs.rules.Rules.{passed-all, first-in, unguarded, asked}
 use Rattle.machine.proofs.calls.Records.{idle-is}
 use Rattle.machine.proofs.opening.Reflect.{length-ok, ok-length}
@@ -63,6 +63,7 @@ use Rattle.machine.proofs.making.FreshValid.{
   opened-fresh,
 }
 use Rattle.layout.specs.Told.{alone}
+use Rattle.machine.proofs.opening.Opens.{Enough}
 
 -- ---- each rule's test tells whether it holds in words
 
@@ -232,6 +233,9 @@ module _ (o : Wanted) (a : List ℕ) (small : Small a) (first : Small (o .first)
     unfolding figures layoutOf freshFigures
     blocks-in = ap (λ (g : Layout). g .I) made-layout
 
+    enough : (work : Room) → FreshRoom o work → Enough (alone d) m (extentOf work)
+    enough work h = record { bytes = omega (arith, h .bytes, blocks-in); records = omega (arith, h .records, lanes-in) }
+
     map-zero : (s : ℕ) → s < o .sectors → mapWord (layoutIn (alone d) m) m s ≡ 0
     map-zero s u = fresh (o .first) (o .second) figures a given d w .map s (omega (arith, sectors-in))
 
@@ -242,11 +246,11 @@ module _ (o : Wanted) (a : List ℕ) (small : Small a) (first : Small (o .first)
     unfolding openOf figures
     fresh-opens = record {
       valid = rw arena (valid (o .first) (o .second) figures a given d w);
-      number = λ work h. rw arena (opens (o .first) (o .second) figures a given d w (length work) (omega (arith, blocks-in)));
+      number = λ work h. rw arena (opens (o .first) (o .second) figures a given d w (extentOf work) (enough work h));
       mended = λ work. rw arena (opened-mended (o .first) (o .second) figures a given d w work);
       arena = λ work. rw arena (opened-arena (o .first) (o .second) figures a given d w work);
       lanes = λ work l h u. idle-is _ _ _ _ (rw arena
-          (opened-fresh (o .first) (o .second) figures a given d w work l (omega (arith, blocks-in)) (omega (arith, lanes-in))
+          (opened-fresh (o .first) (o .second) figures a given d w work l (enough work h) (omega (arith, lanes-in))
           ∙ ap (λ (n : ℕ). idleLane (n + l) 1 2) sectors-in));
     }
 

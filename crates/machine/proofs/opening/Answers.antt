@@ -15,6 +15,7 @@ use Rattle.infoblock.specs.Info.{infoBlockOf, infoAllowed, flagsAllowed}
 use Rattle.format.proofs.Tests.{true-false, by-bool, every-intro, every-false, some-intro, some-true}
 use Rattle.machine.specs.state.Flog.{mapWord, mapBlock}
 use Rattle.machine.specs.calls.Opening.{
+  Room,
   OpenRule,
   wrongLayout,
   wrongLength,
@@ -22,6 +23,7 @@ use Rattle.machine.specs.calls.Opening.{
   forbiddenFigure,
   flagsSet,
   shortWork,
+  fewRecords,
   lostLane,
   badWords,
   sloppyArena,
@@ -38,6 +40,8 @@ use Rattle.machine.specs.calls.Opening.{
   wordBad,
   sloppy,
   unsettled,
+  Extent,
+  extentOf,
 }
 use Rattle.machine.specs.words.Valid.{Readable, Settled, Valid, HoldsOpen, AnswersOpen}
 use Rattle.machine.specs.claims.Opening.{OpeningAnswers}
@@ -47,7 +51,7 @@ use Rattle.machine.proofs.invariant.Tidy.{tidy-of}
 use Rattle.machine.proofs.opening.Clean.{tidy-clean, sloppy-found, found-sloppy, clean-passes}
 use Rattle.machine.proofs.opening.Described.{Described, described-distance, described-figures, described-layout, described-arena}
 use Rattle.machine.proofs.opening.Settled.{settled-of, of-settled}
-use Rattle.machine.proofs.opening.Opens.{Opens, open-zero, zero-open, lanes-pass, words-pass}
+use Rattle.machine.proofs.opening.Opens.{Opens, open-zero, zero-open, lanes-pass, words-pass, enough-for, room-for}
 use Rattle.machine.proofs.opening.Reflect.{
   length-ok,
   ok-length,
@@ -66,6 +70,7 @@ use Rattle.machine.proofs.opening.Reflect.{
 use Rattle.layout.specs.Told.{distanceAllowed}
 use Rattle.layout.proofs.Allowed.{distance-of, of-distance}
 use Rattle.layout.specs.declared.Told.{Told}
+use Rattle.layout.specs.Place.{layoutOf}
 
 module _ (τ : Told) where
   module _ (a : List ℕ) (small : Small a) where
@@ -101,12 +106,13 @@ module _ (τ : Told) where
     needs forbiddenFigure = Unit {0}
     needs flagsSet = Unit {0}
     needs shortWork = Unit {0}
+    needs fewRecords = Unit {0}
     needs lostLane = Unit {0}
     needs badWords = Unit {0}
     needs sloppyArena = Described τ a
     needs notValid = Described τ a × (lanesLost (layoutIn τ a) a ≡ false) × (wordBad (layoutIn τ a) a ≡ false) × (sloppy (layoutIn τ a) a ≡ false)
 
-    tells : (room : ℕ) (r : OpenRule) → needs r → (testsOpen τ a room r ≡ true → HoldsOpen τ a room r) × (HoldsOpen τ a room r → testsOpen τ a room r ≡ true)
+    tells : (room : Extent) (r : OpenRule) → needs r → (testsOpen τ a room r ≡ true → HoldsOpen τ a room r) × (HoldsOpen τ a room r → testsOpen τ a room r ≡ true)
     unfolding needs
     tells room wrongLayout u = asked (distance-of (τ .distance)) (of-distance (τ .distance))
     tells room wrongLength u = asked (length-ok (length a)) (ok-length (length a))
@@ -114,6 +120,7 @@ module _ (τ : Told) where
     tells room forbiddenFigure u = asked (info-ok τ (infoBlockOf a) (length a) (block-small a small)) (ok-info τ (infoBlockOf a) (length a) (block-small a small))
     tells room flagsSet u = asked (flags-ok (infoBlockOf a)) (ok-flags (infoBlockOf a))
     tells room shortWork u = (ltb-true _ _, lt-ltb _ _)
+    tells room fewRecords u = (unfold layoutOf in (ltb-true _ _), unfold layoutOf in (lt-ltb _ _))
     tells room lostLane u = (
       lane-lost,
       λ f. by-bool (lanesLost (layoutIn τ a) a) _ (λ t. t)
@@ -133,10 +140,10 @@ module _ (τ : Told) where
       λ f. by-bool (unsettled (layoutIn τ a) a) _ (λ t. t) (λ t. absurd (f (settled-yes (u .0) (u .1) (u .2) (u .3) t))),
     )
 
-    pub answers : (room : ℕ) → AnswersOpen τ a room (openNumber τ a room)
+    pub answers : (room : Extent) → AnswersOpen τ a room (openNumber τ a room)
     unfolding openNumber needs
     answers room = first-in numberOpen needs (testsOpen τ a room) (HoldsOpen τ a room) (tells room) orderOpen
-        (tt, λ p16. (tt, λ p1. (not-false _ p1, λ p2. (tt, λ p3. (tt, λ p4. (tt, λ p5. (tt, λ p6. (tt, λ p7. later (described p16 p1 p2 p3 p4) p6 p7))))))))
+        (tt, λ p16. (tt, λ p1. (not-false _ p1, λ p2. (tt, λ p3. (tt, λ p4. (tt, λ p5. (tt, λ p21. (tt, λ p6. (tt, λ p7. later (described p16 p1 p2 p3 p4) p6 p7)))))))))
       where
         described : not (distanceAllowed (τ .distance)) ≡ false → not (lengthAllowed (length a)) ≡ false → eqb (length (infoBlockOf a)) 0 ≡ false → not (infoAllowed τ (infoBlockOf a) (length a)) ≡ false
             → not (flagsAllowed (infoBlockOf a)) ≡ false → Described τ a
@@ -183,10 +190,10 @@ module _ (τ : Told) where
           settled = unsettled-no d f w c (v .settled);
         }
 
-    pub opening-answers : (work : List ℕ) → OpeningAnswers τ a work
+    pub opening-answers : (work : Room) → OpeningAnswers τ a work
     unfolding openOf
     opening-answers work = record {
-      answers = answers (length work);
-      accepts = λ e. let p = open-zero τ a (length work) e in (opens-valid (p .0), p .1);
-      only = λ v h. zero-open τ a (length work) (valid-opens v) h;
+      answers = answers (extentOf work);
+      accepts = λ e. let p = open-zero τ a (extentOf work) e in (opens-valid (p .0), room-for τ a work (p .1));
+      only = λ v h. zero-open τ a (extentOf work) (valid-opens v) (enough-for τ a work h);
     }

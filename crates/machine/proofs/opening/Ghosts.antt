@@ -17,7 +17,7 @@ use Rattle.machine.specs.state.Lane.{idleLane, startedLane, laneAfter, i
 use Rattle.machine.specs.state.Handle.{laneAt}
 use Rattle.machine.specs.state.Stores.{putAll}
 use Rattle.machine.specs.state.Flog.{mapWord, mapBlock, flogWord, newerHalf, newerWord, freeOf, pending, spareOf}
-use Rattle.machine.specs.calls.Opening.{laneReadable, mends, mended, twoPending, count, eachOnce, foundLane, foundLanes}
+use Rattle.machine.specs.calls.Opening.{laneReadable, mends, mended, twoPending, count, eachOnce, foundLane, filled}
 use Rattle.machine.specs.words.Valid.{Readable}
 use Rattle.machine.proofs.stores.Once.{Once, once-of, count-same}
 use Rattle.machine.proofs.stores.Stores.{Arena}
@@ -27,7 +27,8 @@ use Rattle.machine.proofs.opening.Found.{ended, settledLane, pending-is
 use Rattle.machine.proofs.opening.Ends.{finishLanes, finish-later, finish-sooner, finish-inv}
 use Rattle.machine.proofs.opening.Mends.{readable-of, word-in, pending-old}
 use Rattle.machine.proofs.opening.Spare.{two-apart, spare-count}
-use Rattle.machine.proofs.invariant.Lanes.{listed, listed-length, lane-listed, found-length, found-lane-at, inv-same}
+use Rattle.machine.proofs.invariant.Lanes.{listed, listed-length, lane-listed, inv-same, filled-length, filled-lane}
+use lib.ListN.{length}
 
 -- an arena that passes rules 6 to 8 and 18, in its layout
 pub record Consistent (g : Layout) (a : List ℕ) : Type 0 where
@@ -165,11 +166,11 @@ module _ (g : Layout) (a : List ℕ) (j : Consistent g a) where
       pending-is g _ _ (mends-inv n (omega arith)) l v ∙ ap (ended g) (finish-later g (ghosts g a) n l u)
       ∙ sym (pending-is g a (ghosts g a) ghost-inv l v)
 
-  -- the arena that opening leaves, with the records that it gives
-  pub opened-inv : Inv g (mended g a) (foundLanes g a (g .N))
-  opened-inv = inv-same g (mended g a) (finishLanes g (ghosts g a) (g .N)) (foundLanes g a (g .N))
-      (rw found-length (omega arith))
-      (λ l u. found-lane-at g a (g .N) l u ∙ sym (settled l u))
+  -- the arena that opening leaves, with the table that it gives
+  pub opened-inv : (table : List Lane) → g .N ≤ length table → Inv g (mended g a) (filled g a table)
+  opened-inv table long = inv-same g (mended g a) (finishLanes g (ghosts g a) (g .N)) (filled g a table)
+      (rw (filled-length g a table long) long)
+      (λ l u. filled-lane g a table l u ∙ sym (settled l u))
       (mends-inv (g .N) (omega arith))
     where
       settled : (l : ℕ) → l < g .N → laneAt (finishLanes g (ghosts g a) (g .N)) l ≡ foundLane g a l

@@ -22,20 +22,21 @@ use Rattle.machine.specs.state.Lane.{idleLane}
 use Rattle.machine.specs.state.Handle.{laneAt}
 use Rattle.machine.specs.state.Stores.{putAll}
 use Rattle.machine.specs.state.Flog.{mapWord, flogWord, newerHalf, newerWord, newerFlog, pending}
-use Rattle.machine.specs.calls.Opening.{figuresIn, layoutIn, mends, pendingLanes, mended, handleFor, openOf, cutOpenOf}
+use Rattle.machine.specs.calls.Opening.{Room, figuresIn, layoutIn, mends, pendingLanes, mended, handleFor, openOf, cutOpenOf, extentOf}
 use Rattle.machine.specs.words.InBytes.{flogByte, mapByte, mapWordIn, newerIn, sectorIn, oldIn, newIn, sequenceIn, PendingIn, pendingBelow}
 use Rattle.machine.specs.claims.Opening.{LaneAsFound, HandleAsFound, MendedFor, Mended, MendedUpTo}
 use Rattle.machine.proofs.stores.Stores.{putAll-length}
 use Rattle.machine.proofs.opening.Mends.{readable-of, pending-old, mends-take, mend-keeps}
 use Rattle.machine.proofs.opening.MendedMap.{word-mended}
 use Rattle.machine.proofs.opening.MendedMap.{of-pending}
-use Rattle.machine.proofs.invariant.Lanes.{found-length}
+use Rattle.machine.proofs.invariant.Lanes.{filled-length, filled-past}
 use Rattle.machine.proofs.opening.Ghosts.{Consistent}
 use Rattle.machine.proofs.opening.Described.{Described, described-distance, described-figures}
 use Rattle.machine.proofs.opening.Opens.{open-zero, handle-lane, opens-consistent}
 use Rattle.machine.proofs.calls.Records.{idle-is}
 use Rattle.machine.proofs.stores.Offsets.{flog-byte, map-word}
 use Rattle.layout.specs.declared.Told.{Told}
+use Rattle.machine.specs.declared.lane.Lane.{Lane}
 
 -- ---- the mended map by word numbers
 
@@ -109,16 +110,16 @@ module _ (τ : Told) where
     outside k s (inl u) e = omega (arith, map-start (τ .distance) (figuresIn a) (length a) (described-figures τ a d) s)
     outside k s (inr u) e = omega (arith, map-start (τ .distance) (figuresIn a) (length a) (described-figures τ a d) s)
 
-  module _ (a : List ℕ) (d : Described τ a) (j : Consistent (layoutIn τ a) a) where
-    lane-found : (l : ℕ) → l < (figuresIn a) .lanes → LaneAsFound (τ .distance) a l (laneAt ((handleFor τ a) .lanes) l)
+  module _ (a : List ℕ) (d : Described τ a) (j : Consistent (layoutIn τ a) a) (table : List Lane) (long : (layoutIn τ a) .N ≤ length table) where
+    lane-found : (l : ℕ) → l < (figuresIn a) .lanes → LaneAsFound (τ .distance) a l (laneAt ((handleFor τ a table) .table) l)
     unfolding layoutOf
     lane-found l u = record {
       has-newer = rw (newer-bytes a d l) at (readable-of (layoutIn τ a) a l (j .lanes l u) .newer);
-      idle = idle-is _ _ _ _ (handle-lane τ a l u
+      idle = idle-is _ _ _ _ (handle-lane τ a table l u
           ∙ (λ i. idleLane (old-bytes a d l i) (1 - newer-bytes a d l i) (successor (sequence-bytes a d l i))));
     }
 
-    handle-found : HandleAsFound (τ .distance) a (handleFor τ a)
+    handle-found : HandleAsFound (τ .distance) a table (handleFor τ a table)
     unfolding handleFor layoutOf
     handle-found = record {
       size = refl;
@@ -126,9 +127,11 @@ module _ (τ : Told) where
       figures = refl;
       fields = fields-claim .figures (infoBlockOf a);
       lanes = lane-found;
-      count = found-length (layoutIn τ a) a ((figuresIn a) .lanes);
+      count = filled-length (layoutIn τ a) a table long;
+      past = filled-past (layoutIn τ a) a table;
     }
 
+  module _ (a : List ℕ) (d : Described τ a) (j : Consistent (layoutIn τ a) a) where
     -- mended for the lanes below n, which are these
     part-mended : (n : ℕ) → n ≤ (figuresIn a) .lanes → (these : ℕ → Type 0)
         → ((l : ℕ) → l < (figuresIn a) .lanes → these l → (l < n) × (pending (layoutIn τ a) a l ≡ true))
@@ -160,19 +163,19 @@ module _ (τ : Told) where
         (λ l u p. let t = of-bytes a d l (p .0) in (r .3 l u t .0 (omega (arith, e l, p .1)), t))
         (λ l u t. (to-bytes a d l t, omega (arith, e l, r .3 l (omega (arith, r .1)) t .1 u))))
 
-  module _ (a work : List ℕ) (small : Small a) (e : (openOf τ a work) .number ≡ 0) where
-    pub handle-as-found : HandleAsFound (τ .distance) a ((openOf τ a work) .handle)
+  module _ (a : List ℕ) (work : Room) (small : Small a) (e : (openOf τ a work) .number ≡ 0) where
+    pub handle-as-found : HandleAsFound (τ .distance) a (work .table) ((openOf τ a work) .handle)
     unfolding openOf
-    handle-as-found = let o = open-zero τ a (length work) e .0 in rw e (handle-found a (o .info) (opens-consistent τ a o small))
+    handle-as-found = let o = open-zero τ a (extentOf work) e in rw e (handle-found a (o .0 .info) (opens-consistent τ a (o .0) small) (work .table) (o .1 .records))
 
     pub newer-half : (l : ℕ) → HalfFrom a (flogByte (τ .distance) (figuresIn a) l (newerIn (τ .distance) a l) 0) (newerFlog (layoutIn τ a) a l)
     unfolding openOf
-    newer-half = half-bytes a (open-zero τ a (length work) e .0 .info)
+    newer-half = half-bytes a (open-zero τ a (extentOf work) e .0 .info)
 
     pub opening-mends : Mended (τ .distance) a ((openOf τ a work) .arena)
     unfolding openOf
-    opening-mends = let o = open-zero τ a (length work) e .0 in rw e (arena-mended a (o .info) (opens-consistent τ a o small))
+    opening-mends = let o = open-zero τ a (extentOf work) e .0 in rw e (arena-mended a (o .info) (opens-consistent τ a o small))
 
-  pub cut-mends : (a work : List ℕ) (k : ℕ) → Small a → (cutOpenOf τ a work k) .number ≡ 0 → MendedUpTo (τ .distance) a k ((cutOpenOf τ a work k) .arena)
+  pub cut-mends : (a : List ℕ) (work : Room) (k : ℕ) → Small a → (cutOpenOf τ a work k) .number ≡ 0 → MendedUpTo (τ .distance) a k ((cutOpenOf τ a work k) .arena)
   unfolding cutOpenOf
-  cut-mends a work k small e = let o = open-zero τ a (length work) e .0 in rw e (cut-mended a (o .info) (opens-consistent τ a o small) k)
+  cut-mends a work k small e = let o = open-zero τ a (extentOf work) e .0 in rw e (cut-mended a (o .info) (opens-consistent τ a o small) k)

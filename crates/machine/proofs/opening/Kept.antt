@@ -10,7 +10,7 @@ use Rattle.layout.specs.Place.{Layout, layoutOf}
 use Rattle.infoblock.specs.Info.{infoBlockOf, figuresOf}
 use Rattle.machine.specs.Rules.{answer}
 use Rattle.machine.specs.state.Stores.{putAll}
-use Rattle.machine.specs.calls.Opening.{layoutIn, mends, mended, openNumber, workAfter, handleFor}
+use Rattle.machine.specs.calls.Opening.{Room, layoutIn, mends, mended, openNumber, workAfter, handleFor, Extent}
 use Rattle.machine.proofs.stores.Stores.{putAll-length}
 use Rattle.machine.proofs.opening.Mends.{mends-arena, mends-fits}
 use Rattle.machine.proofs.opening.Ghosts.{Consistent}
@@ -18,6 +18,7 @@ use Rattle.machine.proofs.opening.Consistent.{consistent-kept, mended-k
 use Rattle.machine.proofs.opening.Described.{described-same, info-kept}
 use Rattle.machine.proofs.opening.Opens.{Opens, open-number, opens-consistent, consistent-opens}
 use Rattle.layout.specs.declared.Told.{Told}
+use Rattle.machine.specs.declared.lane.Lane.{Lane}
 
 module _ (τ : Told) where
   module _ (a : List ℕ) (o : Opens τ a) (small : Small a) (n : ℕ) (few : n ≤ (layoutIn τ a) .N) where
@@ -39,17 +40,17 @@ module _ (τ : Told) where
     pub kept-opens : Opens τ A
     kept-opens = consistent-opens τ A (described-same τ a A (putAll-length g (mends g a n) a) kept-info (o .info)) (rw kept-info (consistent-kept g a judged n few))
 
-    pub kept-number : (room : ℕ) → openNumber τ A room ≡ openNumber τ a room
+    pub kept-number : (room : Extent) → openNumber τ A room ≡ openNumber τ a room
     kept-number room =
-        open-number τ A room kept-opens ∙ ap (λ (b : List ℕ). cond (ltb room ((layoutOf (τ .distance) (figuresOf b)) .I)) 5 0) kept-info ∙ sym (open-number τ a room o)
+        open-number τ A room kept-opens ∙ ap (λ (b : List ℕ). let g = layoutOf (τ .distance) (figuresOf b) in cond (ltb (room .bytes) (g .I)) 5 (cond (ltb (room .records) (g .N)) 21 0)) kept-info ∙ sym (open-number τ a room o)
 
     pub kept-mended : mended (layoutIn τ A) A ≡ mended (layoutIn τ a) a
     kept-mended = ap (λ (b : List ℕ). mended (layoutOf (τ .distance) (figuresOf b)) A) kept-info ∙ mended-kept g a judged n few
 
-    pub kept-handle : handleFor τ A ≡ handleFor τ a
+    pub kept-handle : (table : List Lane) → handleFor τ A table ≡ handleFor τ a table
     unfolding handleFor
-    kept-handle = rw (kept-info, putAll-length g (mends g a n) a, found-kept g a judged n few)
+    kept-handle table = rw (kept-info, putAll-length g (mends g a n) a, found-kept g a judged n few)
 
-    pub kept-work : (work : List ℕ) → workAfter τ A work ≡ workAfter τ a work
+    pub kept-work : (work : Room) → workAfter τ A work ≡ workAfter τ a work
     unfolding workAfter answer
     kept-work work = rw (kept-info, putAll-length g (mends g a n) a)

@@ -1,5 +1,5 @@
--- What an opening that answers 0 found and gives. No rule applied but perhaps the fifth, so the answer goes by the work buffer alone; the
--- handle has the info block's figures, and each lane's record as its log has it.
+-- What an opening that answers 0 found and gives. Where no rule applies but perhaps 5 and 21, the answer goes by what is lent alone; the handle
+-- has the info block's figures, and its table each lane's record as its log has it.
 use mathlib.Core.Path.{_≡_, ap, _∙_}
 use mathlib.Core.Logic.{_≢_}
 use mathlib.Core.List.{List}
@@ -21,6 +21,10 @@ use Rattle.machine.specs.state.Handle.{Handle, laneAt}
 use Rattle.machine.specs.state.Flog.{mapWord}
 use Rattle.machine.specs.Rules.{answer}
 use Rattle.machine.specs.calls.Opening.{
+  Extent,
+  extentOf,
+  fewRecords,
+  Room,
   OpenRule,
   wrongLayout,
   wrongLength,
@@ -50,14 +54,15 @@ use Rattle.machine.specs.calls.Opening.{
 }
 use Rattle.machine.specs.claims.DemandTwo.{AllIdle}
 use Rattle.machine.proofs.rules.Rules.{Passed, passed-all}
-use Rattle.machine.proofs.invariant.Lanes.{found-lane-at}
+use Rattle.machine.proofs.invariant.Lanes.{filled-lane}
 use Rattle.machine.proofs.invariant.Tidy.{tidy-of, of-tidy}
 use Rattle.machine.proofs.opening.Described.{Described, described-layout, described-arena}
 use Rattle.machine.proofs.opening.Ghosts.{Consistent}
 use Rattle.layout.specs.declared.Told.{Told}
+use Rattle.machine.specs.words.Valid.{RoomFor}
 
 module _ (τ : Told) where
-  -- no rule applies but perhaps the fifth
+  -- no rule applies but perhaps 5 and 21, which are about what is lent
   pub record Opens (a : List ℕ) : Type 0 where
     pub info : Described τ a
     pub lanes : lanesLost (layoutIn τ a) a ≡ false
@@ -81,31 +86,45 @@ some-number-open noInfoBlock e = omega arith
 some-number-open forbiddenFigure e = omega arith
 some-number-open flagsSet e = omega arith
 some-number-open shortWork e = omega arith
+some-number-open fewRecords e = omega arith
 some-number-open lostLane e = omega arith
 some-number-open badWords e = omega arith
 some-number-open sloppyArena e = omega arith
 some-number-open notValid e = omega arith
 
-pub record OpeningPassed (τ : Told) (a : List ℕ) (n : ℕ) : Type 0 where
+-- room to work: a byte for each block and a record for each lane, or more
+pub record Enough (τ : Told) (a : List ℕ) (room : Extent) : Type 0 where
+  pub bytes : (layoutIn τ a) .I ≤ room .bytes
+  pub records : (layoutIn τ a) .N ≤ room .records
+
+pub enough-for : (τ : Told) (a : List ℕ) (room : Room) → RoomFor (figuresIn a) room → Enough τ a (extentOf room)
+unfolding layoutOf
+enough-for τ a room r = record { bytes = r .bytes; records = r .records }
+
+pub room-for : (τ : Told) (a : List ℕ) (room : Room) → Enough τ a (extentOf room) → RoomFor (figuresIn a) room
+unfolding layoutOf
+room-for τ a room r = record { bytes = r .bytes; records = r .records }
+
+pub record OpeningPassed (τ : Told) (a : List ℕ) (room : Extent) : Type 0 where
   pub layout : distanceAllowed (τ .distance) ≡ true
   pub size : lengthAllowed (length a) ≡ true
   pub block : eqb (length (infoBlockOf a)) 0 ≡ false
   pub allowed : infoAllowed τ (infoBlockOf a) (length a) ≡ true
   pub flags : flagsAllowed (infoBlockOf a) ≡ true
-  pub room : (layoutIn τ a) .I ≤ n
+  pub enough : Enough τ a room
   pub lanes : lanesLost (layoutIn τ a) a ≡ false
   pub words : wordBad (layoutIn τ a) a ≡ false
   pub clean : sloppy (layoutIn τ a) a ≡ false
   pub settled : unsettled (layoutIn τ a) a ≡ false
 
-opening-passed : (τ : Told) (a : List ℕ) (room : ℕ) → Passed numberOpen (testsOpen τ a room) orderOpen → OpeningPassed τ a room
-opening-passed τ a room (p16, (p1, (p2, (p3, (p4, (p5, (p6, (p7, (p18, (p8, _)))))))))) = record {
+opening-passed : (τ : Told) (a : List ℕ) (room : Extent) → Passed numberOpen (testsOpen τ a room) orderOpen → OpeningPassed τ a room
+opening-passed τ a room (p16, (p1, (p2, (p3, (p4, (p5, (p21, (p6, (p7, (p18, (p8, _))))))))))) = record {
   layout = not-false _ p16;
   size = not-false _ p1;
   block = p2;
   allowed = not-false _ p3;
   flags = not-false _ p4;
-  room = ltb-false _ _ p5;
+  enough = record { bytes = ltb-false _ _ p5; records = ltb-false _ _ p21 };
   lanes = p6;
   words = p7;
   clean = p18;
@@ -113,15 +132,15 @@ opening-passed τ a room (p16, (p1, (p2, (p3, (p4, (p5, (p6, (p7, (p18, (p8, _))
 }
 
 module _ (τ : Told) where
-  module _ (a : List ℕ) (room : ℕ) where
-    pub open-number : Opens τ a → openNumber τ a room ≡ cond (ltb room ((layoutIn τ a) .I)) 5 0
+  module _ (a : List ℕ) (room : Extent) where
+    pub open-number : Opens τ a → openNumber τ a room ≡ cond (ltb (room .bytes) ((layoutIn τ a) .I)) 5 (cond (ltb (room .records) ((layoutIn τ a) .N)) 21 0)
     unfolding openNumber answer
     open-number o = rw (o .info .layout, o .info .size, o .info .block, o .info .allowed, o .info .flags, o .lanes, o .words, o .clean, o .settled)
 
-    pub zero-open : Opens τ a → (layoutIn τ a) .I ≤ room → openNumber τ a room ≡ 0
-    zero-open o h = open-number o ∙ rw (le-ltb room ((layoutIn τ a) .I) h)
+    pub zero-open : Opens τ a → Enough τ a room → openNumber τ a room ≡ 0
+    zero-open o h = open-number o ∙ rw (le-ltb (room .bytes) ((layoutIn τ a) .I) (h .bytes), le-ltb (room .records) ((layoutIn τ a) .N) (h .records))
 
-    pub open-zero : openNumber τ a room ≡ 0 → Opens τ a × ((layoutIn τ a) .I ≤ room)
+    pub open-zero : openNumber τ a room ≡ 0 → Opens τ a × Enough τ a room
     unfolding openNumber
     open-zero e =
         let p = opening-passed τ a room (passed-all numberOpen some-number-open (testsOpen τ a room) orderOpen e) in (
@@ -132,17 +151,17 @@ module _ (τ : Told) where
             clean = p .clean;
             settled = p .settled;
           },
-          p .room,
+          p .enough,
         )
 
   -- ---- what it gives
 
-  pub handle-lane : (a : List ℕ) (l : ℕ) → l < (layoutIn τ a) .N → laneAt ((handleFor τ a) .lanes) l ≡ foundLane (layoutIn τ a) a l
+  pub handle-lane : (a : List ℕ) (table : List Lane) (l : ℕ) → l < (layoutIn τ a) .N → laneAt ((handleFor τ a table) .table) l ≡ foundLane (layoutIn τ a) a l
   unfolding handleFor
-  handle-lane a l u = found-lane-at (layoutIn τ a) a ((layoutIn τ a) .N) l u
+  handle-lane a table l u = filled-lane (layoutIn τ a) a table l u
 
-  module _ (a work : List ℕ) (e : (openOf τ a work) .number ≡ 0) where
-    pub opened-handle : (openOf τ a work) .handle ≡ handleFor τ a
+  module _ (a : List ℕ) (work : Room) (e : (openOf τ a work) .number ≡ 0) where
+    pub opened-handle : (openOf τ a work) .handle ≡ handleFor τ a (work .table)
     unfolding openOf
     opened-handle = rw e
 
@@ -154,8 +173,8 @@ module _ (τ : Told) where
     unfolding handleFor
     opened-figures = ap (λ (h : Handle). h .figures) opened-handle
 
-    pub opened-lane : (l : ℕ) → l < (layoutIn τ a) .N → laneAt ((openOf τ a work) .handle .lanes) l ≡ foundLane (layoutIn τ a) a l
-    opened-lane l u = rw opened-handle (handle-lane a l u)
+    pub opened-lane : (l : ℕ) → l < (layoutIn τ a) .N → laneAt ((openOf τ a work) .handle .table) l ≡ foundLane (layoutIn τ a) a l
+    opened-lane l u = rw opened-handle (handle-lane a (work .table) l u)
 
     pub opened-idle : AllIdle ((openOf τ a work) .handle)
     unfolding layoutOf

@@ -1,4 +1,4 @@
--- Every call answers as the row does, and a read gives what the row has: 16 and 7 never apply, and the other tests are one by one
+-- Every call answers as the row does, and a read gives what the row has: 16, 21, 7 and 18 never apply, and the other tests are one by one
 -- those of the row.
 use mathlib.Core.Path.{_≡_, refl, sym, ap, _∙_}
 use mathlib.Core.List.{List}
@@ -19,6 +19,8 @@ use Rattle.machine.specs.calls.Order.{
   Call,
   Rule,
   badHandle,
+  shortTable,
+  badRecords,
   noSuchSector,
   wrongBuffer,
   noSuchLane,
@@ -32,7 +34,7 @@ use Rattle.machine.specs.calls.Order.{
   order,
 }
 use Rattle.machine.specs.models.Row.{isBad, isFlying, fliesTo, Row, rowTests, rowNumber, rowRead}
-use Rattle.machine.proofs.invariant.Held.{held-allowed, held-word, held-clean, lanes-in, sectors-in}
+use Rattle.machine.proofs.invariant.Held.{held-allowed, held-short, held-records, held-word, held-clean, lanes-in, sectors-in}
 use Rattle.machine.proofs.rules.Rules.{alike}
 use Rattle.machine.proofs.rules.Running.{Needs, guarded}
 use Rattle.machine.proofs.row.Contents.{contentOf}
@@ -49,17 +51,17 @@ flying-to r bytes s = by-bool (isBusy r) _ (λ t. rw t) (λ t. rw t)
 
 module _ (τ : Told) where
   module _ (row : Row) (a : List ℕ) (h : Handle) (k : Rep τ row a h) where
-    pub busy-is : (l : ℕ) → l < h .figures .lanes → isBusy (laneAt (h .lanes) l) ≡ isFlying (row .lane l)
+    pub busy-is : (l : ℕ) → l < h .figures .lanes → isBusy (laneAt (h .table) l) ≡ isFlying (row .lane l)
     busy-is l u =
         let w = k .lane l (lanes-in (h .distance) (h .figures) l u) in
-        sym (ap isFlying (w .is) ∙ flying-busy (laneAt (h .lanes) l) (w .bytes))
+        sym (ap isFlying (w .is) ∙ flying-busy (laneAt (h .table) l) (w .bytes))
 
-    flight-is : (s : ℕ) → inFlight (h .lanes) (h .figures .lanes) s ≡ some (h .figures .lanes) (λ j. fliesTo s (row .lane j))
+    flight-is : (s : ℕ) → inFlight (h .table) (h .figures .lanes) s ≡ some (h .figures .lanes) (λ j. fliesTo s (row .lane j))
     unfolding inFlight
     flight-is s =
-        some-same (h .figures .lanes) (λ l. isBusy (laneAt (h .lanes) l) && eqb ((laneAt (h .lanes) l) .sector .0) s) (λ j. fliesTo s (row .lane j))
+        some-same (h .figures .lanes) (λ l. isBusy (laneAt (h .table) l) && eqb ((laneAt (h .table) l) .sector .0) s) (λ j. fliesTo s (row .lane j))
         (λ l u. let w = k .lane l (lanes-in (h .distance) (h .figures) l u) in
-        sym (ap (fliesTo s) (w .is) ∙ flying-to (laneAt (h .lanes) l) (w .bytes) s))
+        sym (ap (fliesTo s) (w .is) ∙ flying-to (laneAt (h .table) l) (w .bytes) s))
 
     bad-is : (s : ℕ) → s < h .figures .sectors → eqb (readingOf (flagsOf (mapWord (laidOut h) a s))) 1 ≡ isBad (row .sector s)
     unfolding contentOf
@@ -67,6 +69,8 @@ module _ (τ : Told) where
 
     agree : (r : Rule) → Needs (h .figures) r → tests a h r ≡ rowTests (h .figures) row r
     agree badHandle u = rw (held-allowed τ a h (k .held))
+    agree shortTable u = held-short τ a h (k .held)
+    agree badRecords u = rw (held-records τ a h (k .held))
     agree (noSuchSector s) u = refl
     agree (wrongBuffer n) u = refl
     agree (noSuchLane l) u = refl

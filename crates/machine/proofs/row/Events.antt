@@ -1,19 +1,19 @@
 -- Every event, a call or an opening, answers as the row does and leaves what the row leaves. An opening is refused only for want of room,
 -- and else leaves every lane idle and the sectors as the row has them.
 use mathlib.Core.Path.{_≡_, sym, ap, _∙_}
-use mathlib.Core.List.{List, [], _++_}
-use mathlib.Core.Bool.{true, false, cond}
-use Prim.Native.Nat.{ℕ, _≤_}
+use mathlib.Core.List.{List, []}
+use mathlib.Core.Bool.{false, cond}
+use Prim.Native.Nat.{ℕ}
 use native.Mathlib.Omega.{arith}
 use lib.Dec.{eqb, ltb}
-use lib.ListN.{length, drop, replicate}
-use borrow.Author.Tests.{ltb-false, le-ltb}
+use lib.ListN.{length}
+use borrow.Author.Tests.{eqb-true}
 use Rattle.format.proofs.Tests.{true-false, by-bool}
 use Rattle.layout.specs.Place.{layoutOf}
 use Rattle.layout.specs.declared.Figures.{Figures}
 use Rattle.machine.specs.declared.lane.Lane.{Lane}
 use Rattle.machine.specs.Rules.{answer}
-use Rattle.machine.specs.calls.Opening.{numberOpen, aloneRules, mapRules, testsOpen, layoutIn, openNumber, openOf, workAfter}
+use Rattle.machine.specs.calls.Opening.{Room, extentOf, openOf, workAfter}
 use Rattle.machine.specs.calls.Writing.{startOf, stepOf, writeOf}
 use Rattle.machine.specs.calls.History.{
   Call,
@@ -22,7 +22,6 @@ use Rattle.machine.specs.calls.History.{
   step,
   write,
   State,
-  Reply,
   openedState,
   after,
   reply,
@@ -44,12 +43,11 @@ use Rattle.machine.specs.models.Row.{
   lacking,
   reopened,
   rowOpenNumber,
+  rowWork,
   rowAfterEvent,
   rowReplyEvent,
 }
-use Rattle.machine.proofs.opening.Described.{Described}
-use Rattle.machine.proofs.opening.Opens.{some-number-open, open-number, opened-idle}
-use Rattle.machine.proofs.rules.Rules.{first-zero}
+use Rattle.machine.proofs.opening.Opens.{room-for, open-number, open-zero, opened-idle}
 use Rattle.machine.proofs.calls.Running.{word-idle}
 use Rattle.machine.proofs.invariant.Good.{good-opens, good-number, good-arena, good-count}
 use Rattle.machine.proofs.invariant.Held.{held-open}
@@ -61,6 +59,7 @@ use Rattle.machine.proofs.row.Opens.{lacking-is, settled-is}
 use Rattle.machine.specs.state.Lane.{isBusy}
 use Rattle.layout.specs.declared.Told.{Told}
 use Rattle.machine.specs.state.Handle.{laneAt}
+use Rattle.machine.specs.words.Valid.{RoomFor}
 
 -- ---- openings
 
@@ -72,80 +71,63 @@ module _ (τ : Told) where
   RepIn row x = Rep τ row (x .arena) (x .handle)
 
 module _ (τ : Told) where
-  module _ (row : Row) (x : State) (k : RepIn τ row x) (work : List ℕ) where
-    open-answer : (openOf τ (x .arena) work) .number ≡ rowOpenNumber (x .handle .figures) (length work)
+  module _ (row : Row) (x : State) (k : RepIn τ row x) (work : Room) where
+    open-answer : (openOf τ (x .arena) work) .number ≡ rowOpenNumber (x .handle .figures) (extentOf work)
     unfolding openOf rowOpenNumber layoutOf answer
     open-answer =
-        open-number τ (x .arena) (length work) (good-opens τ (x .arena) (x .handle .distance) (x .handle .figures) (x .handle .lanes) (k .held .good))
-        ∙ ap (λ (f : Figures). cond (ltb (length work) (f .blocks)) 5 0) (k .held .good .figures)
+        open-number τ (x .arena) (extentOf work) (good-opens τ (x .arena) (x .handle .distance) (x .handle .figures) (x .handle .table) (k .held .good))
+        ∙ ap (λ (f : Figures). cond (ltb (length (work .work)) (f .blocks)) 5 (cond (ltb (length (work .table)) (f .lanes)) 21 0)) (k .held .good .figures)
 
-    -- the row's answer goes by the length of the work buffer alone
-    room-or : (x .handle .figures .blocks ≤ length work → rowOpenNumber (x .handle .figures) (length work) ≡ 0)
-        × (ltb (length work) (x .handle .figures .blocks) ≡ true → rowOpenNumber (x .handle .figures) (length work) ≡ 5)
-    unfolding rowOpenNumber answer
-    room-or = (λ u. rw (le-ltb (length work) (x .handle .figures .blocks) u), λ t. rw t)
+    -- where the row accepts there is room
+    row-room : rowOpenNumber (x .handle .figures) (extentOf work) ≡ 0 → RoomFor (x .handle .figures) work
+    unfolding openOf
+    row-room e = rw (k .held .good .figures) at (room-for τ (x .arena) work (open-zero τ (x .arena) (extentOf work) (open-answer ∙ e) .1))
 
-    module _ (room : x .handle .figures .blocks ≤ length work) where
+    module _ (room : RoomFor (x .handle .figures) work) where
       pub accepted : (openOf τ (x .arena) work) .number ≡ 0
-      accepted = good-number τ (x .arena) (x .handle .distance) (x .handle .figures) (x .handle .lanes) (k .held .good) work room
+      accepted = good-number τ (x .arena) (x .handle .distance) (x .handle .figures) (x .handle .table) (k .held .good) work room
 
       reopened-rep : RepIn τ (reopened (x .handle .figures) row) (openedState (openOf τ (x .arena) work))
       unfolding layoutOf
       reopened-rep =
           let like = alike-open τ x work (k .held) accepted in
-          let all = good-arena τ (x .arena) (x .handle .distance) (x .handle .figures) (x .handle .lanes) (k .held .good) work room in
+          let all = good-arena τ (x .arena) (x .handle .distance) (x .handle .figures) (x .handle .table) (k .held .good) work room in
           record {
             held = held-open τ (x .arena) work (held-small τ x (k .held)) accepted;
-            lane = λ l u. idle-as _ _ _ _ (word-idle (laneAt ((openOf τ (x .arena) work) .handle .lanes) l) (opened-idle τ (x .arena) work accepted l u));
+            lane = λ l u. idle-as _ _ _ _ (word-idle (laneAt ((openOf τ (x .arena) work) .handle .table) l) (opened-idle τ (x .arena) work accepted l u));
             sector = rw (like .distance, like .figures, all) (settled-is τ row (x .arena) (x .handle) k (x .handle .figures .lanes) (omega arith));
           }
 
-      open-work : (openOf τ (x .arena) work) .work ≡ replicate (x .handle .figures .blocks) 0 ++ drop (x .handle .figures .blocks) work
-      unfolding openOf workAfter layoutOf
-      open-work = rw (alone-passed, k .held .good .figures)
-        where
-          alone-passed : answer numberOpen (testsOpen τ (x .arena) (length work)) aloneRules ≡ 0
-          alone-passed = first-zero numberOpen some-number-open (testsOpen τ (x .arena) (length work)) aloneRules mapRules (unfold openOf openNumber in accepted)
-
-      open-mended : (openOf τ (x .arena) work) .mended ≡ lacking (x .handle .figures) row (x .handle .figures .lanes)
+      count : (openOf τ (x .arena) work) .mended ≡ lacking (x .handle .figures) row (x .handle .figures .lanes)
       unfolding layoutOf
-      open-mended =
-          good-count τ (x .arena) (x .handle .distance) (x .handle .figures) (x .handle .lanes) (k .held .good) work room
+      count =
+          good-count τ (x .arena) (x .handle .distance) (x .handle .figures) (x .handle .table) (k .held .good) work room
           ∙ sym (lacking-is τ row (x .arena) (x .handle) k (x .handle .figures .lanes) (omega arith))
 
-    module _ (short : ltb (length work) (x .handle .figures .blocks) ≡ true) where
-      refused : (openOf τ (x .arena) work) .number ≡ 5
-      refused = open-answer ∙ room-or .1 short
+    -- the work buffer goes by its own length alone, on 21 too
+    open-work : (openOf τ (x .arena) work) .work ≡ rowWork (x .handle .figures) (work .work)
+    unfolding openOf workAfter answer rowWork layoutOf
+    open-work =
+        let d = k .held .good .info in
+        rw (d .layout, d .size, d .block, d .allowed, d .flags, k .held .good .figures)
+        (by-bool (ltb (length (work .work)) (x .handle .figures .blocks)) _ (λ t. rw t) (λ t. rw t))
 
-      refused-work : (openOf τ (x .arena) work) .work ≡ work
-      unfolding openOf workAfter answer
-      refused-work = rw (d .layout, d .size, d .block, d .allowed, d .flags, short-in)
-        where
-          d : Described τ (x .arena)
-          d = k .held .good .info
-
-          short-in : ltb (length work) ((layoutIn τ (x .arena)) .I) ≡ true
-          short-in = unfold layoutOf in (rw (k .held .good .figures) short)
-
-      refused-mended : (openOf τ (x .arena) work) .mended ≡ 0
-      unfolding openOf
-      refused-mended = rw refused
+    open-mended : (openOf τ (x .arena) work) .mended
+        ≡ cond (eqb (rowOpenNumber (x .handle .figures) (extentOf work)) 0) (lacking (x .handle .figures) row (x .handle .figures .lanes)) 0
+    open-mended = by-bool (eqb (rowOpenNumber (x .handle .figures) (extentOf work)) 0) _
+        (λ t. rw t (count (row-room (eqb-true _ _ t)))) (λ t. rw t (none t))
+      where
+        none : eqb (rowOpenNumber (x .handle .figures) (extentOf work)) 0 ≡ false → (openOf τ (x .arena) work) .mended ≡ 0
+        none t = unfold openOf in (rw (open-answer, t))
 
     open-reply : replyEvent τ x (opened work) ≡ rowReplyEvent (x .handle .figures) row (opened work)
     unfolding rowReplyEvent
-    open-reply = by-bool (ltb (length work) (x .handle .figures .blocks)) _
-        (λ t. rw (room-or .1 t) (same (refused t) (refused-work t) (refused-mended t)))
-        (λ t. let room = ltb-false _ _ t in rw (room-or .0 room) (same (accepted room) (open-work room) (open-mended room)))
-      where
-        same : {n n′ m m′ : ℕ} {b b′ : List ℕ} → n ≡ n′ → b ≡ b′ → m ≡ m′
-            → _≡_ {A = Reply} (record { number = n; buffer = b; mended = m }) (record { number = n′; buffer = b′; mended = m′ })
-        same p q r = λ j. record { number = p j; buffer = q j; mended = r j }
+    open-reply = λ j. record { number = open-answer j; buffer = open-work j; mended = open-mended j }
 
     open-rep : RepIn τ (rowAfterEvent wordByWord (x .handle .figures) row (opened work)) (afterEvent τ x (opened work))
     unfolding rowAfterEvent
-    open-rep = by-bool (ltb (length work) (x .handle .figures .blocks)) _
-        (λ t. rw (room-or .1 t, refused t) k)
-        (λ t. let room = ltb-false _ _ t in rw (room-or .0 room, accepted room) (reopened-rep room))
+    open-rep = by-bool (eqb (rowOpenNumber (x .handle .figures) (extentOf work)) 0) _
+        (λ t. rw (open-answer, t) (reopened-rep (row-room (eqb-true _ _ t)))) (λ t. rw (open-answer, t) k)
 
   -- ---- calls
 

@@ -3,12 +3,12 @@
 use mathlib.Core.Path.{_≡_, refl, sym, ap, ap₂, _∙_, subst}
 use mathlib.Core.List.{List, [], _∷_, List·Memᴰ·head, List·Memᴰ·tail}
 use mathlib.Core.Bool.{false}
-use Prim.Native.Nat.{ℕ, _≤_, _<_}
-use lib.ListN.{length, replicate}
+use Prim.Native.Nat.{ℕ, _<_}
+use lib.ListN.{replicate}
 use Rattle.words.specs.Bytes.{Small}
 use Rattle.layout.specs.declared.Figures.{Figures}
 use Rattle.machine.specs.state.Handle.{laneAt, laidOut}
-use Rattle.machine.specs.calls.Opening.{figuresIn, openOf}
+use Rattle.machine.specs.calls.Opening.{Room, figuresIn, openOf}
 use Rattle.machine.specs.calls.Reading.{readOf}
 use Rattle.machine.specs.calls.History.{
   runs,
@@ -51,12 +51,13 @@ use Rattle.machine.proofs.row.Answers.{read-is}
 use Rattle.machine.proofs.row.Events.{RepIn, idle-as, accepted, event-reply, event-rep}
 use Rattle.machine.specs.state.Lane.{isBusy}
 use Rattle.layout.specs.declared.Told.{Told}
+use Rattle.machine.specs.words.Valid.{RoomFor}
 
 module _ (τ : Told) where
   -- ---- the row that an arena begins with
 
   pub first-rep : (x : State) → HeldIn τ x → AllIdle (x .handle) → RepIn τ (firstRow x) x
-  first-rep x k calm = record { held = k; lane = λ l u. idle-as _ _ _ _ (word-idle (laneAt (x .handle .lanes) l) (calm l (lanes-out (x .handle .distance) (x .handle .figures) l u))); sector = found }
+  first-rep x k calm = record { held = k; lane = λ l u. idle-as _ _ _ _ (word-idle (laneAt (x .handle .table) l) (calm l (lanes-out (x .handle .distance) (x .handle .figures) l u))); sector = found }
     where
       found : (s : ℕ) → s < (laidOut (x .handle)) .E
           → foundSector (readOf (x .arena) (x .handle) s (replicate (x .handle .figures .size) 0)) ≡ contentOf (x .handle .distance) (x .handle .figures) (x .arena) s
@@ -81,15 +82,15 @@ module _ (τ : Told) where
 
   -- ---- opened again with every lane idle
 
-  module _ (row : Row) (x : State) (k : RepIn τ row x) (calm : AllIdle (x .handle)) (room : List ℕ) (u : x .handle .figures .blocks ≤ length room) where
-    all-idle : (l : ℕ) → l < (laidOut (x .handle)) .N → isBusy (laneAt (x .handle .lanes) l) ≡ false
-    all-idle l v = word-idle (laneAt (x .handle .lanes) l) (calm l (lanes-out (x .handle .distance) (x .handle .figures) l v))
+  module _ (row : Row) (x : State) (k : RepIn τ row x) (calm : AllIdle (x .handle)) (room : Room) (u : RoomFor (x .handle .figures) room) where
+    all-idle : (l : ℕ) → l < (laidOut (x .handle)) .N → isBusy (laneAt (x .handle .table) l) ≡ false
+    all-idle l v = word-idle (laneAt (x .handle .table) l) (calm l (lanes-out (x .handle .distance) (x .handle .figures) l v))
 
     opens : (openOf τ (x .arena) room) .number ≡ 0
     opens = accepted τ row x k room u
 
     same-arena : (openOf τ (x .arena) room) .arena ≡ x .arena
-    same-arena = idle-arena τ (x .arena) (x .handle .distance) (x .handle .figures) (x .handle .lanes) (k .held .good) room u all-idle
+    same-arena = idle-arena τ (x .arena) (x .handle .distance) (x .handle .figures) (x .handle .table) (k .held .good) room u all-idle
 
     same-distance : (openOf τ (x .arena) room) .handle .distance ≡ x .handle .distance
     same-distance = alike-open τ x room (k .held) opens .distance
@@ -103,14 +104,14 @@ module _ (τ : Told) where
     again-rep : RepIn τ row (openedState (openOf τ (x .arena) room))
     again-rep = record {
       held = held-open τ (x .arena) room (held-small τ x (k .held)) opens;
-      lane = λ l v. rw (idle-lane l (rw (same-distance, same-figures) at v)) (idle-as _ _ _ _ (word-idle (laneAt ((openOf τ (x .arena) room) .handle .lanes) l) (opened-idle τ (x .arena) room opens l (lanes-out _ _ l v))));
+      lane = λ l v. rw (idle-lane l (rw (same-distance, same-figures) at v)) (idle-as _ _ _ _ (word-idle (laneAt ((openOf τ (x .arena) room) .handle .table) l) (opened-idle τ (x .arena) room opens l (lanes-out _ _ l v))));
       sector = rw (same-distance, same-figures, same-arena) (k .sector);
     }
 
     opens-again : OpensAgain τ x row room
     opens-again = record {
       number = opens;
-      mended = idle-count τ (x .arena) (x .handle .distance) (x .handle .figures) (x .handle .lanes) (k .held .good) room u all-idle;
+      mended = idle-count τ (x .arena) (x .handle .distance) (x .handle .figures) (x .handle .table) (k .held .good) room u all-idle;
       arena = same-arena;
       reads = λ s buffer. read-is τ row ((openOf τ (x .arena) room) .arena) ((openOf τ (x .arena) room) .handle) again-rep s buffer
           ∙ ap (λ (f : Figures). rowRead f row s buffer) (same-figures ∙ sym (held-figures τ x (k .held)));
@@ -118,7 +119,7 @@ module _ (τ : Told) where
 
   -- ---- the claim
 
-  module _ (a work : List ℕ) (hs : List Happening) (small : Small a) (smalls : SmallEvents (latestOf hs)) (e : (openOf τ a work) .number ≡ 0)
+  module _ (a : List ℕ) (work : Room) (hs : List Happening) (small : Small a) (smalls : SmallEvents (latestOf hs)) (e : (openOf τ a work) .number ≡ 0)
       (harmless : AllHarmless τ (openedFrom τ a work) hs) where
     begins : HeldIn τ (openedFrom τ a work)
     begins = held-open τ a work small e

@@ -5,10 +5,10 @@ use mathlib.Core.List.{List, []}
 use mathlib.Core.Bool.{Bool, true, false, cond}
 use Prim.Native.Nat.{ℕ, _+_}
 use lib.Dec.{eqb}
-use lib.ListN.{length}
 use borrow.Author.Tests.{eqb-true}
 use Rattle.format.proofs.Tests.{by-bool}
 use Rattle.layout.specs.declared.Figures.{Figures}
+use Rattle.machine.specs.calls.Opening.{extentOf}
 use Rattle.machine.specs.calls.History.{Call, read, start, step, write, Event, called, opened}
 use Rattle.machine.specs.models.Row.{
   Flight,
@@ -60,4 +60,4 @@ module _ (P : ℕ → Flight → Type 0) where
     unfolding rowAfterEvent rowAfter
     event-each row (called c) p q = by-bool (eqb (rowNumber f row c) 0) _
         (λ t. rw t (changed-each row c (λ l buffer d. p l buffer (ap called d) (rw (← d) (eqb-true _ _ t))) q)) (λ t. rw t q)
-    event-each row (opened work) p q = either (eqb (rowOpenNumber f (length work)) 0) (reopened f row) row resting q
+    event-each row (opened work) p q = either (eqb (rowOpenNumber f (extentOf work)) 0) (reopened f row) row resting q

@@ -51,50 +51,50 @@ module _ (τ : Told) where
     abbrev g : Layout
     g = laidOut h
 
-    i : Inv g a (h .lanes)
+    i : Inv g a (h .table)
     i = k .held .good .inv
 
     -- the row's test and the record's
-    lacks-is : (l : ℕ) → l < g .N → lacksLast (h .figures) (row .lane l) ≡ ended g (laneAt (h .lanes) l)
-    lacks-is l u = rw (k .lane l u .is) (by-bool (isBusy (laneAt (h .lanes) l)) _
-        (λ t. rw t (last-store (h .distance) (h .figures) ((laneAt (h .lanes) l) .made)))
-        (λ t. rw t (sym (idle-ended g a l (laneAt (h .lanes) l) (i .lane l u) t))))
+    lacks-is : (l : ℕ) → l < g .N → lacksLast (h .figures) (row .lane l) ≡ ended g (laneAt (h .table) l)
+    lacks-is l u = rw (k .lane l u .is) (by-bool (isBusy (laneAt (h .table) l)) _
+        (λ t. rw t (last-store (h .distance) (h .figures) ((laneAt (h .table) l) .made)))
+        (λ t. rw t (sym (idle-ended g a l (laneAt (h .table) l) (i .lane l u) t))))
 
     finished-is : (sectors : ℕ → Sector) (l : ℕ) (u : l < g .N) → finished (h .figures) sectors (row .lane l)
-        ≡ cond (ended g (laneAt (h .lanes) l)) (put sectors ((laneAt (h .lanes) l) .sector .0) (holds (k .lane l u .bytes))) sectors
-    finished-is sectors l u = rw (k .lane l u .is) (by-bool (isBusy (laneAt (h .lanes) l)) _
-        (λ t. rw (t, last-store (h .distance) (h .figures) ((laneAt (h .lanes) l) .made)))
-        (λ t. rw (t, idle-ended g a l (laneAt (h .lanes) l) (i .lane l u) t)))
+        ≡ cond (ended g (laneAt (h .table) l)) (put sectors ((laneAt (h .table) l) .sector .0) (holds (k .lane l u .bytes))) sectors
+    finished-is sectors l u = rw (k .lane l u .is) (by-bool (isBusy (laneAt (h .table) l)) _
+        (λ t. rw (t, last-store (h .distance) (h .figures) ((laneAt (h .table) l) .made)))
+        (λ t. rw (t, idle-ended g a l (laneAt (h .table) l) (i .lane l u) t)))
 
     -- how many writes are finished
-    pub lacking-is : (n : ℕ) → n ≤ g .N → lacking (h .figures) row n ≡ length (finals g (h .lanes) n)
+    pub lacking-is : (n : ℕ) → n ≤ g .N → lacking (h .figures) row n ≡ length (finals g (h .table) n)
     unfolding lacking finals
     lacking-is zero u = refl
-    lacking-is (suc n) u = rw (lacks-is n u, length-append (finals g (h .lanes) n))
-        (ap₂ (λ x y. x + y) (lacking-is n (omega arith)) (sym (one-length (finalStore (laneAt (h .lanes) n)) (ended g (laneAt (h .lanes) n)))))
+    lacking-is (suc n) u = rw (lacks-is n u, length-append (finals g (h .table) n))
+        (ap₂ (λ x y. x + y) (lacking-is n (omega arith)) (sym (one-length (finalStore (laneAt (h .table) n)) (ended g (laneAt (h .table) n)))))
 
     -- the arena with the writes of the lanes below n ended
     abbrev endedIn : ℕ → List ℕ
-    endedIn n = putAll g (finals g (h .lanes) n) a
+    endedIn n = putAll g (finals g (h .table) n) a
 
-    ended-inv : (n : ℕ) → n ≤ g .N → Inv g (endedIn n) (finishLanes g (h .lanes) n)
-    ended-inv = finish-inv g a (h .lanes) i
+    ended-inv : (n : ℕ) → n ≤ g .N → Inv g (endedIn n) (finishLanes g (h .table) n)
+    ended-inv = finish-inv g a (h .table) i
 
     -- one lane more
-    module _ (n : ℕ) (u : n < g .N) (t : ended g (laneAt (h .lanes) n) ≡ true) where
+    module _ (n : ℕ) (u : n < g .N) (t : ended g (laneAt (h .table) n) ≡ true) where
       abbrev r : Lane
-      r = laneAt (h .lanes) n
+      r = laneAt (h .table) n
 
       same-data : (b x : ℕ) → b < g .I → x < g .W → word (endedIn (suc n)) (at g (inData b x)) ≡ word a (at g (inData b x))
-      same-data b x v w = finals-data g (h .lanes) a i b x v w (suc n) u
+      same-data b x v w = finals-data g (h .table) a i b x v w (suc n) u
 
       map-word : (s : ℕ) → s ≡ r .sector .0 → mapWord g (endedIn (suc n)) s ≡ mappedTo (r .block .0)
-      map-word s e = rw (e, finals-more g (h .lanes) a n t)
+      map-word s e = rw (e, finals-more g (h .table) a n t)
           (stored-word g (i .ok) (endedIn n) (finalStore r) (ended-inv n (omega arith) .arena)
           (map-fits g (i .ok) a (i .arena) _ _ (i .lane n u .sector-in) (i .lane n u .block-in)))
 
       map-other : (s : ℕ) → s < g .E → s ≢ r .sector .0 → mapWord g (endedIn (suc n)) s ≡ mapWord g (endedIn n) s
-      map-other s v d = rw (finals-more g (h .lanes) a n t)
+      map-other s v d = rw (finals-more g (h .table) a n t)
           (word-other g (i .ok) (endedIn n) (r .sector .0) (mappedTo (r .block .0)) (i .lane n u .sector-in) s v d)
 
       lent : Lent (h .distance) (h .figures) a r (k .lane n u .bytes)
@@ -111,22 +111,22 @@ module _ (τ : Told) where
       left s v d = let w = ended-inv n (omega arith) in
           content-kept (h .distance) (h .figures) (i .ok) (held-whole τ a h (k .held)) (endedIn n) (endedIn (suc n)) (w .arena) (ended-inv (suc n) u .arena) s
           (w .map-in s v) (map-other s v d)
-          (λ x c. same-data _ x (w .map-in s v) c ∙ sym (finals-data g (h .lanes) a i _ x (w .map-in s v) c n (omega arith)))
+          (λ x c. same-data _ x (w .map-in s v) c ∙ sym (finals-data g (h .table) a i _ x (w .map-in s v) c n (omega arith)))
 
     settle : (n : ℕ) → n < g .N → ((s : ℕ) → s < g .E → settled (h .figures) row n s ≡ contentOf (h .distance) (h .figures) (endedIn n) s)
         → (s : ℕ) → s < g .E → settled (h .figures) row (suc n) s ≡ contentOf (h .distance) (h .figures) (endedIn (suc n)) s
     unfolding settled
-    settle n u ih s v = rw (finished-is (settled (h .figures) row n) n u) (by-bool (ended g (laneAt (h .lanes) n)) _
-        (λ t. rw t (go t (ℕ-discrete s ((laneAt (h .lanes) n) .sector .0))))
-        (λ t. rw (t, finals-same g (h .lanes) n t) (ih s v)))
+    settle n u ih s v = rw (finished-is (settled (h .figures) row n) n u) (by-bool (ended g (laneAt (h .table) n)) _
+        (λ t. rw t (go t (ℕ-discrete s ((laneAt (h .table) n) .sector .0))))
+        (λ t. rw (t, finals-same g (h .table) n t) (ih s v)))
       where
-        go : ended g (laneAt (h .lanes) n) ≡ true → Dec (s ≡ (laneAt (h .lanes) n) .sector .0)
-            → put (settled (h .figures) row n) ((laneAt (h .lanes) n) .sector .0) (holds (k .lane n u .bytes)) s
+        go : ended g (laneAt (h .table) n) ≡ true → Dec (s ≡ (laneAt (h .table) n) .sector .0)
+            → put (settled (h .figures) row n) ((laneAt (h .table) n) .sector .0) (holds (k .lane n u .bytes)) s
             ≡ contentOf (h .distance) (h .figures) (endedIn (suc n)) s
-        go t (yes e) = rw (eq-eqb s ((laneAt (h .lanes) n) .sector .0) e) (sym (landed n u t s e))
-        go t (no d) = rw (ne-eqb s ((laneAt (h .lanes) n) .sector .0) d) (ih s v ∙ sym (left n u t s v d))
+        go t (yes e) = rw (eq-eqb s ((laneAt (h .table) n) .sector .0) e) (sym (landed n u t s e))
+        go t (no d) = rw (ne-eqb s ((laneAt (h .table) n) .sector .0) d) (ih s v ∙ sym (left n u t s v d))
 
     pub settled-is : (n : ℕ) → n ≤ g .N → (s : ℕ) → s < g .E
-        → settled (h .figures) row n s ≡ contentOf (h .distance) (h .figures) (putAll g (finals g (h .lanes) n) a) s
+        → settled (h .figures) row n s ≡ contentOf (h .distance) (h .figures) (putAll g (finals g (h .table) n) a) s
     settled-is zero u s v = unfold settled finals putAll in (k .sector s v)
     settled-is (suc n) u s v = settle n u (settled-is n (omega arith)) s v

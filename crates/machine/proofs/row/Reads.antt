@@ -1,4 +1,4 @@
--- A read through a good handle goes by what the sector holds and by the handle's figures alone: rules 16, 7 and 18 never apply.
+-- A read through a good handle goes by what the sector holds and by the handle's figures alone: rules 16, 21, 7 and 18 never apply.
 use mathlib.Core.Path.{_≡_, sym, ap, _∙_}
 use mathlib.Core.List.{List}
 use Prim.Native.Nat.{ℕ, _<_}
@@ -15,7 +15,7 @@ use Rattle.layout.specs.declared.Told.{Told}
 use Rattle.machine.specs.state.Flog.{mapWord}
 use Rattle.machine.specs.calls.Reading.{Read, readOf, blockBytes}
 use Rattle.machine.specs.models.Row.{Sector, holds, bad, idle, rowNumber, rowRead, foundSector}
-use Rattle.machine.proofs.invariant.Held.{Held, held-allowed, held-word, held-clean}
+use Rattle.machine.proofs.invariant.Held.{Held, held-allowed, held-short, held-records, held-word, held-clean}
 use Rattle.machine.proofs.row.Contents.{contentOf}
 
 -- a read of a sector that holds c
@@ -49,7 +49,7 @@ module _ (τ : Told) where
       → readOf a h s buffer ≡ readBy (h .figures) (contentOf (h .distance) (h .figures) a s) s buffer
   unfolding readOf callNumber answer rowRead rowNumber contentOf blockBytes
   held-read a h k s buffer =
-      rw (held-allowed τ a h k) (by-bool (leb (h .figures .sectors) s) _ (λ t. rw t)
+      rw (held-allowed τ a h k, held-short τ a h k, held-records τ a h k) (by-bool (leb (h .figures .sectors) s) _ (λ t. rw t)
       (λ t. rw (t, held-word τ a h k s (leb-false _ _ t), held-clean τ a h k s (leb-false _ _ t))
       (by-bool (eqb (length buffer) (h .figures .size)) _
       (λ v. rw v (by-bool (eqb (readingOf (flagsOf (mapWord (laidOut h) a s))) 1) _ (λ w. rw w) (λ w. rw w))) (λ v. rw v))))

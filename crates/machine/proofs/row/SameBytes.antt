@@ -18,6 +18,8 @@ use Rattle.layout.specs.declared.Told.{Told}
 use Rattle.machine.specs.calls.Order.{
   Rule,
   badHandle,
+  shortTable,
+  badRecords,
   noSuchSector,
   wrongBuffer,
   noSuchLane,
@@ -30,7 +32,7 @@ use Rattle.machine.specs.calls.Order.{
   number,
   order,
 }
-use Rattle.machine.specs.calls.Opening.{figuresIn, openOf}
+use Rattle.machine.specs.calls.Opening.{Room, extentOf, figuresIn, openOf}
 use Rattle.machine.specs.calls.History.{
   runs,
   says,
@@ -113,6 +115,8 @@ lacks-first f (flying s made bytes) = refl
 module _ (f : Figures) (row : Row) where
   tests-alike : (r : Rule) → rowTests f (firsts row) r ≡ rowTests f row r
   tests-alike badHandle = refl
+  tests-alike shortTable = refl
+  tests-alike badRecords = refl
   tests-alike (noSuchSector s) = refl
   tests-alike (wrongBuffer n) = refl
   tests-alike (noSuchLane l) = refl
@@ -149,7 +153,7 @@ module _ (f : Figures) (row : Row) where
   -- an accepted step is handed the sector's bytes
   step-size : (l : ℕ) (buffer : List ℕ) → rowNumber f row (step l buffer) ≡ 0 → length buffer ≡ f .size
   unfolding rowNumber
-  step-size l buffer e = eqb-true _ _ (not-false _ (passed-all number some-number (rowTests f row) (order (step l buffer)) e .1 .1 .1 .0))
+  step-size l buffer e = eqb-true _ _ (not-false _ (passed-all number some-number (rowTests f row) (order (step l buffer)) e .1 .1 .1 .1 .1 .0))
 
 -- ---- what is left
 
@@ -215,7 +219,7 @@ module _ (f : Figures) (whole : f .size ≡ 4 * (f .size / 4)) where
       unfolding rowAfterEvent rowAfter
       event-alike (called c) same = rw (number-alike f row c) (by-bool (eqb (rowNumber f row c) 0) _
           (λ t. rw t (changed-alike c (eqb-true _ _ t) same)) (λ t. rw t))
-      event-alike (opened work) same = by-bool (eqb (rowOpenNumber f (length work)) 0) _
+      event-alike (opened work) same = by-bool (eqb (rowOpenNumber f (extentOf work)) 0) _
           (λ t. rw t (same-row (settled-alike (f .lanes)) refl)) (λ t. rw t)
 
       event-sized : (e : Event) → EachLane (λ _. Sized f) (rowAfterEvent lastBuffer f row e)
@@ -237,7 +241,7 @@ module _ (f : Figures) (whole : f .size ≡ 4 * (f .size / 4)) where
 -- ---- the claim
 
 module _ (τ : Told) where
-  module _ (a work : List ℕ) (hs : List Happening) (small : Small a) (e : (openOf τ a work) .number ≡ 0)
+  module _ (a : List ℕ) (work : Room) (hs : List Happening) (small : Small a) (e : (openOf τ a work) .number ≡ 0)
       (one : OneBuffer (figuresIn a) (firstRow (openedFrom τ a work)) (latestOf hs)) where
     whole-in : (figuresIn a) .size ≡ 4 * ((figuresIn a) .size / 4)
     unfolding layoutOf

@@ -35,7 +35,7 @@ pub record LaneAs (d : ℕ) (f : Figures) (a : List ℕ) (r : Lane) (y : Flight)
 module _ (τ : Told) where
   pub record Rep (row : Row) (a : List ℕ) (h : Handle) : Type 0 where
     pub held : Held τ a h
-    pub lane : (l : ℕ) → l < (laidOut h) .N → LaneAs (h .distance) (h .figures) a (laneAt (h .lanes) l) (row .lane l)
+    pub lane : (l : ℕ) → l < (laidOut h) .N → LaneAs (h .distance) (h .figures) a (laneAt (h .table) l) (row .lane l)
     pub sector : (s : ℕ) → s < (laidOut h) .E → row .sector s ≡ contentOf (h .distance) (h .figures) a s
 
 module _ (τ : Told) where

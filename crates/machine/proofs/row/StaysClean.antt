@@ -1,11 +1,10 @@
 -- What opens stays clean: rule 18 lets the arena pass whatever was called, and the row, which answers alike, never answers 18.
 use mathlib.Core.Path.{_≡_, refl, subst}
 use mathlib.Core.Logic.{_≢_}
-use mathlib.Core.Bool.{Bool, true, false, cond}
+use mathlib.Core.Bool.{false}
 use mathlib.Core.List.{List}
 use Prim.Native.Nat.{ℕ}
 use native.Mathlib.Omega.{arith}
-use lib.Dec.{eqb}
 use lib.ListN.{length}
 use Rattle.words.specs.Bytes.{Small}
 use Rattle.layout.specs.Told.{alone}
@@ -14,6 +13,8 @@ use Rattle.layout.proofs.Allowed.{allowed-of}
 use Rattle.machine.specs.calls.Order.{
   Rule,
   badHandle,
+  shortTable,
+  badRecords,
   noSuchSector,
   wrongBuffer,
   noSuchLane,
@@ -27,6 +28,9 @@ use Rattle.machine.specs.calls.Order.{
   order,
 }
 use Rattle.machine.specs.calls.Opening.{
+  Room,
+  Extent,
+  extentOf,
   OpenRule,
   wrongLayout,
   wrongLength,
@@ -34,6 +38,7 @@ use Rattle.machine.specs.calls.Opening.{
   forbiddenFigure,
   flagsSet,
   shortWork,
+  fewRecords,
   lostLane,
   badWords,
   sloppyArena,
@@ -76,6 +81,8 @@ use Rattle.machine.proofs.row.Follows.{words-follow}
 module _ (f : Figures) (row : Row) where
   no-rule : (r : Rule) → number r ≡ 18 → rowTests f row r ≡ false
   no-rule badHandle e = absurd (omega arith)
+  no-rule shortTable e = absurd (omega arith)
+  no-rule badRecords e = absurd (omega arith)
   no-rule (noSuchSector s) e = absurd (omega arith)
   no-rule (wrongBuffer n) e = absurd (omega arith)
   no-rule (noSuchLane l) e = absurd (omega arith)
@@ -90,19 +97,20 @@ module _ (f : Figures) (row : Row) where
   unfolding rowNumber
   call-not c = answer-not number (rowTests f row) 18 (λ e. omega arith) no-rule (order c)
 
-open-rule : (f : Figures) (room : ℕ) (r : OpenRule) → numberOpen r ≡ 18 → rowOpenTests f room r ≡ false
+open-rule : (f : Figures) (room : Extent) (r : OpenRule) → numberOpen r ≡ 18 → rowOpenTests f room r ≡ false
 open-rule f room wrongLayout e = absurd (omega arith)
 open-rule f room wrongLength e = absurd (omega arith)
 open-rule f room noInfoBlock e = absurd (omega arith)
 open-rule f room forbiddenFigure e = absurd (omega arith)
 open-rule f room flagsSet e = absurd (omega arith)
 open-rule f room shortWork e = absurd (omega arith)
+open-rule f room fewRecords e = absurd (omega arith)
 open-rule f room lostLane e = absurd (omega arith)
 open-rule f room badWords e = absurd (omega arith)
 open-rule f room sloppyArena e = refl
 open-rule f room notValid e = absurd (omega arith)
 
-open-not : (f : Figures) (room : ℕ) → rowOpenNumber f room ≢ 18
+open-not : (f : Figures) (room : Extent) → rowOpenNumber f room ≢ 18
 unfolding rowOpenNumber
 open-not f room = answer-not numberOpen (rowOpenTests f room) 18 (λ e. omega arith) (open-rule f room) orderOpen
 
@@ -115,22 +123,18 @@ reply-not f row (called (read s buffer)) = call-not f row (read s buffer)
 reply-not f row (called (start l s)) = call-not f row (start l s)
 reply-not f row (called (step l buffer)) = call-not f row (step l buffer)
 reply-not f row (called (write l s buffer)) = call-not f row (write l s buffer)
-reply-not f row (opened work) = either (eqb (rowOpenNumber f (length work)) 0) _ _ (open-not f (length work)) (open-not f (length work))
-  where
-    either : (t : Bool) (x y : Reply) → Not18 x → Not18 y → Not18 (cond t x y)
-    either true x y p q = p
-    either false x y p q = q
+reply-not f row (opened work) = open-not f (extentOf work)
 
 -- ---- the claim
 
 -- what is held is clean
 held-clean-bytes : (d : ℕ) (x : State) → HeldIn (alone d) x → Clean d (x .handle .figures) (x .arena)
 held-clean-bytes d x k =
-    let ok = allowed-of (x .handle .figures) (length (x .arena)) (good-figures (alone d) (x .arena) (x .handle .distance) (x .handle .figures) (x .handle .lanes) (k .good)) in
+    let ok = allowed-of (x .handle .figures) (length (x .arena)) (good-figures (alone d) (x .arena) (x .handle .distance) (x .handle .figures) (x .handle .table) (k .good)) in
     tidy-clean d (described-distance (alone d) (x .arena) (k .good .info)) (x .handle .figures) (length (x .arena)) ok (x .arena) (held-small (alone d) x k)
     (rw (← k .good .distance) at (k .good .inv .tidy))
 
-pub stays-clean : (d : ℕ) (a work : List ℕ) (hs : List Happening) → Small a → SmallEvents (latestOf hs) → (openOf (alone d) a work) .number ≡ 0
+pub stays-clean : (d : ℕ) (a : List ℕ) (work : Room) (hs : List Happening) → Small a → SmallEvents (latestOf hs) → (openOf (alone d) a work) .number ≡ 0
     → AllHarmless (alone d) (openedFrom (alone d) a work) hs → StaysClean d a work hs
 stays-clean d a work hs small smalls e harmless =
     let follows = words-follow (alone d) a work hs small smalls e harmless in

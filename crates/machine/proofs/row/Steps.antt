@@ -59,20 +59,20 @@ module _ (τ : Told) where
     g = laidOut h
 
     abbrev r : Lane
-    r = laneAt (h .lanes) l
+    r = laneAt (h .table) l
 
-    i : Inv g a (h .lanes)
+    i : Inv g a (h .table)
     i = k .held .good .inv
 
     -- one record replaced, and one lane of the row
     lanes-put : (a′ : List ℕ) (q : Lane) (y : Flight) → LaneAs (h .distance) (h .figures) a′ q y
-        → ((j : ℕ) → j < g .N → j ≢ l → LaneAs (h .distance) (h .figures) a′ (laneAt (h .lanes) j) (row .lane j))
-        → (j : ℕ) → j < g .N → LaneAs (h .distance) (h .figures) a′ (laneAt (set (h .lanes) l q) j) (put (row .lane) l y j)
+        → ((j : ℕ) → j < g .N → j ≢ l → LaneAs (h .distance) (h .figures) a′ (laneAt (h .table) j) (row .lane j))
+        → (j : ℕ) → j < g .N → LaneAs (h .distance) (h .figures) a′ (laneAt (set (h .table) l q) j) (put (row .lane) l y j)
     lanes-put a′ q y own others j v = go (ℕ-discrete j l)
       where
-        go : Dec (j ≡ l) → LaneAs (h .distance) (h .figures) a′ (laneAt (set (h .lanes) l q) j) (put (row .lane) l y j)
-        go (yes e) = rw (e, eq-eqb l l refl, lane-same (h .lanes) l q (omega (arith, i .long))) own
-        go (no n) = rw (ne-eqb j l n, lane-other (h .lanes) l q j n) (others j v n)
+        go : Dec (j ≡ l) → LaneAs (h .distance) (h .figures) a′ (laneAt (set (h .table) l q) j) (put (row .lane) l y j)
+        go (yes e) = rw (e, eq-eqb l l refl, lane-same (h .table) l q (omega (arith, i .long))) own
+        go (no n) = rw (ne-eqb j l n, lane-other (h .table) l q j n) (others j v n)
 
     -- an accepted start stores nothing
     pub started : (s : ℕ) → Held τ a (withLane h l (startedLane r s (mapBlock g a s)))
@@ -98,14 +98,14 @@ module _ (τ : Told) where
       same-word p = elsewhere g (i .ok) a (st .place) p (st .value) range
 
       moved : (q : Lane) (y : Flight) (sectors : ℕ → Sector) → Held τ (stored g st a) (withLane h l q) → LaneAs (h .distance) (h .figures) (stored g st a) q y
-          → ((j n : ℕ) → j < g .N → j ≢ l → inData ((laneAt (h .lanes) j) .block .0) n ≢ st .place)
+          → ((j n : ℕ) → j < g .N → j ≢ l → inData ((laneAt (h .table) j) .block .0) n ≢ st .place)
           → ((s : ℕ) → s < g .E → sectors s ≡ contentOf (h .distance) (h .figures) (stored g st a) s)
           → Rep τ (record { sector = sectors; lane = put (row .lane) l y }) (stored g st a) (withLane h l q)
       moved q y sectors d own away same = record {
         held = d;
         lane = lanes-put (stored g st a) q y own
-            (λ j v n. lane-as (h .distance) (h .figures) a (stored g st a) (laneAt (h .lanes) j) (row .lane j)
-            (λ m c. same-word (inData ((laneAt (h .lanes) j) .block .0) m) (i .lane j v .block-in, c) (away j m v n)) (k .lane j v));
+            (λ j v n. lane-as (h .distance) (h .figures) a (stored g st a) (laneAt (h .table) j) (row .lane j)
+            (λ m c. same-word (inData ((laneAt (h .table) j) .block .0) m) (i .lane j v .block-in, c) (away j m v n)) (k .lane j v));
         sector = same;
       }
 
@@ -201,12 +201,12 @@ module _ (τ : Told) where
           here : (x : ℕ) → r .made ≤ x → x < r .made + 1 → x < g .W → word (stored g st a) (at g (inData (r .block .0) x)) ≡ word bytes x
           here x v w _ = let e : x ≡ r .made = omega arith in rw e (stored-word g (i .ok) a st (i .arena) fits ∙ sym added)
 
-          others : (j n : ℕ) → j < g .N → j ≢ l → inData ((laneAt (h .lanes) j) .block .0) n ≢ st .place
+          others : (j n : ℕ) → j < g .N → j ≢ l → inData ((laneAt (h .table) j) .block .0) n ≢ st .place
           others j n v d e =
-              free-apart (g .I) (g .E) (g .N) (mapBlock g a) (blockIn (h .lanes)) (i .once) j l v u (i .lane j v .block-in) d (block-no e)
+              free-apart (g .I) (g .E) (g .N) (mapBlock g a) (blockIn (h .table)) (i .once) j l v u (i .lane j v .block-in) d (block-no e)
 
           unmapped : (s : ℕ) → s < g .E → mapBlock g a s ≢ r .block .0
-          unmapped s v = free-unmapped (g .I) (g .E) (g .N) (mapBlock g a) (blockIn (h .lanes)) (i .once) s l v u (i .lane l u .block-in)
+          unmapped s v = free-unmapped (g .I) (g .E) (g .N) (mapBlock g a) (blockIn (h .table)) (i .once) s l v u (i .lane l u .block-in)
 
       flog-step : (j v : ℕ) → j < 4 → r .made ≡ g .W + j → After (record { place = inFlog l (r .half) j; value = v }) (storedLane r) Next
       flog-step j v c m d =

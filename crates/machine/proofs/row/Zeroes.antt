@@ -1,7 +1,7 @@
 -- A made arena begins as a row of zeroes and reads zeroes: every map word is zero, so every sector holds zeroes.
 use mathlib.Core.Path.{_≡_, sym, ap, _∙_}
 use mathlib.Core.List.{List}
-use Prim.Native.Nat.{ℕ, _+_, _≤_, _<_}
+use Prim.Native.Nat.{ℕ, _<_}
 use lib.ListN.{length, replicate}
 use Rattle.words.specs.Bytes.{Small}
 use Rattle.layout.specs.Figures.{freshFigures}
@@ -9,7 +9,7 @@ use Rattle.layout.specs.Place.{layoutOf}
 use Rattle.layout.specs.declared.Figures.{Figures}
 use Rattle.machine.specs.calls.Making.{Wanted, makeOf}
 use Rattle.machine.specs.claims.DemandTwo.{HasZeroes}
-use Rattle.machine.specs.claims.Making.{FreshArena}
+use Rattle.machine.specs.claims.Making.{FreshRoom, FreshArena}
 use Rattle.machine.specs.calls.Reading.{readOf}
 use Rattle.machine.specs.calls.History.{State, openedFrom}
 use Rattle.machine.specs.models.Row.{Sector, holds, firstRow}
@@ -23,9 +23,10 @@ use Rattle.machine.proofs.row.Follows.{first-rep}
 use Rattle.machine.specs.state.Handle.{laidOut}
 use Rattle.layout.specs.Claims.{Distance}
 use Rattle.layout.specs.Told.{alone}
+use Rattle.machine.specs.calls.Opening.{Room}
 
-module _ (d : ℕ) (w : Distance d) (o : Wanted) (a work : List ℕ) (small : Small a) (first : Small (o .first)) (second : Small (o .second)) (e : (makeOf o a) .number ≡ 0)
-    (room : o .sectors + o .lanes ≤ length work) where
+module _ (d : ℕ) (w : Distance d) (o : Wanted) (a : List ℕ) (work : Room) (small : Small a) (first : Small (o .first)) (second : Small (o .second)) (e : (makeOf o a) .number ≡ 0)
+    (room : FreshRoom o work) where
   made : FreshArena o a
   made = making-claim .made o a small first second e
 

@@ -43,12 +43,6 @@ module _ {R : Type 0} (number : R → ℕ) where
     answer-append [] ss = refl
     answer-append (r ∷ rs) ss = by-bool (test r) _ (λ p. rw (p, ne-eqb (number r) 0 (some r))) (λ p. rw p (answer-append rs ss))
 
-    -- the first part of an order that is passed whole is passed
-    pub first-zero : (rs ss : List R) → answer number test (rs ++ ss) ≡ 0 → answer number test rs ≡ 0
-    unfolding answer
-    first-zero [] ss e = refl
-    first-zero (r ∷ rs) ss e = by-bool (test r) _ (λ p. absurd (some r (rw p at e))) (λ p. rw p (first-zero rs ss (rw p at e)))
-
   -- a number whose rules never apply is not given
   pub answer-not : (test : R → Bool) (n : ℕ) → n ≢ 0 → ((r : R) → number r ≡ n → test r ≡ false) → (rs : List R) → answer number test rs ≢ n
   unfolding answer

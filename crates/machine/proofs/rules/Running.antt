@@ -15,6 +15,8 @@ use Rattle.machine.specs.calls.Order.{
   write,
   Rule,
   badHandle,
+  shortTable,
+  badRecords,
   noSuchSector,
   wrongBuffer,
   noSuchLane,
@@ -32,6 +34,8 @@ use Rattle.machine.proofs.rules.Rules.{Walk, walked, Passed, passed-all
 
 pub some-number : (r : Rule) → number r ≢ 0
 some-number badHandle e = omega arith
+some-number shortTable e = omega arith
+some-number badRecords e = omega arith
 some-number (noSuchSector s) e = omega arith
 some-number (wrongBuffer n) e = omega arith
 some-number (noSuchLane l) e = omega arith
@@ -45,6 +49,8 @@ some-number (badSector s) e = omega arith
 -- a rule about a lane or a sector is asked of one that there is
 abbrev pub Needs : Figures → Rule → Type 0
 Needs f badHandle = Unit {0}
+Needs f shortTable = Unit {0}
+Needs f badRecords = Unit {0}
 Needs f (noSuchSector s) = Unit {0}
 Needs f (wrongBuffer n) = Unit {0}
 Needs f (noSuchLane l) = Unit {0}
@@ -58,11 +64,12 @@ Needs f (badSector s) = s < f .sectors
 module _ (f : Figures) (test : Rule → Bool) (lane : (l : ℕ) → test (noSuchLane l) ≡ false → l < f .lanes)
     (sector : (s : ℕ) → test (noSuchSector s) ≡ false → s < f .sectors) where
   pub guarded : (c : Call) → Guarded number (Needs f) test (order c)
-  guarded (read s b) = (tt, λ _. (tt, λ v. (tt, λ _. (sector s v, λ _. (sector s v, λ _. (sector s v, λ _. tt))))))
-  guarded (start l s) = (tt, λ _. (tt, λ u. (lane l u, λ _. (tt, λ v. (sector s v, λ _. (sector s v, λ _. (sector s v, λ _. tt)))))))
-  guarded (step l b) = (tt, λ _. (tt, λ u. (lane l u, λ _. (tt, λ _. tt))))
+  guarded (read s b) = (tt, λ _. (tt, λ _. (tt, λ _. (tt, λ v. (tt, λ _. (sector s v, λ _. (sector s v, λ _. (sector s v, λ _. tt))))))))
+  guarded (start l s) =
+      (tt, λ _. (tt, λ _. (tt, λ _. (tt, λ u. (lane l u, λ _. (tt, λ v. (sector s v, λ _. (sector s v, λ _. (sector s v, λ _. tt)))))))))
+  guarded (step l b) = (tt, λ _. (tt, λ _. (tt, λ _. (tt, λ u. (lane l u, λ _. (tt, λ _. tt))))))
   guarded (write l s b) =
-      (tt, λ _. (tt, λ u. (lane l u, λ _. (tt, λ v. (tt, λ _. (sector s v, λ _. (sector s v, λ _. (sector s v, λ _. tt))))))))
+      (tt, λ _. (tt, λ _. (tt, λ _. (tt, λ u. (lane l u, λ _. (tt, λ v. (tt, λ _. (sector s v, λ _. (sector s v, λ _. (sector s v, λ _. tt))))))))))
 
 module _ (a : List ℕ) (h : Handle) (c : Call) where
   -- the answer at which a walk along the call's order ends

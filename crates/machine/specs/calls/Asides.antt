@@ -6,41 +6,41 @@ use Prim.Native.Nat.{ℕ}
 use Rattle.layout.specs.Told.{inLayout}
 use Rattle.layout.specs.declared.Told.{Told}
 use Rattle.machine.specs.state.Handle.{Handle}
-use Rattle.machine.specs.calls.Opening.{openOf, cutOpenOf}
+use Rattle.machine.specs.calls.Opening.{Room, openOf, cutOpenOf}
 use Rattle.machine.specs.calls.Writing.{stepOf, writeOf}
 use Rattle.machine.specs.calls.History.{Call, read, start, step, write, State, Reply, after, reply, Event, called, opened, afterEvent, replyEvent}
 
--- an event through the latest handle, a call given any handle, or, told a layout, an opening with a work buffer or a cut opening, told a number
--- of stores too
+-- an event through the latest handle, a call given any handle with any table, or, told a layout, an opening with a work buffer and a table or
+-- a cut opening, told a number of stores too
 pub data Happening : Type 0 where
   latest : Event → Happening
   aside : Handle → Call → Happening
-  tried : ℕ → List ℕ → Happening
-  shortened : ℕ → List ℕ → ℕ → Happening
+  tried : ℕ → Room → Happening
+  shortened : ℕ → Room → ℕ → Happening
 
 -- the events through the latest handle, and the calls among them
 unfoldable pub latestOf : List Happening → List Event
 latestOf [] = []
 latestOf (latest e ∷ hs) = e ∷ latestOf hs
 latestOf (aside h c ∷ hs) = latestOf hs
-latestOf (tried d work ∷ hs) = latestOf hs
-latestOf (shortened d work k ∷ hs) = latestOf hs
+latestOf (tried d room ∷ hs) = latestOf hs
+latestOf (shortened d room k ∷ hs) = latestOf hs
 
 unfoldable pub callsOf : List Happening → List Call
 callsOf [] = []
 callsOf (latest (called c) ∷ hs) = c ∷ callsOf hs
-callsOf (latest (opened work) ∷ hs) = callsOf hs
+callsOf (latest (opened room) ∷ hs) = callsOf hs
 callsOf (aside h c ∷ hs) = callsOf hs
-callsOf (tried d work ∷ hs) = callsOf hs
-callsOf (shortened d work k ∷ hs) = callsOf hs
+callsOf (tried d room ∷ hs) = callsOf hs
+callsOf (shortened d room k ∷ hs) = callsOf hs
 
 module _ (t : Told) where
   -- an arena and its latest handle after one of these
   abbrev pub afterOne : State → Happening → State
   afterOne x (latest e) = afterEvent t x e
   afterOne x (aside h c) = record { arena = (after (record { arena = x .arena; handle = h }) c) .arena; handle = x .handle }
-  afterOne x (tried d work) = record { arena = (openOf (inLayout t d) (x .arena) work) .arena; handle = x .handle }
-  afterOne x (shortened d work k) = record { arena = (cutOpenOf (inLayout t d) (x .arena) work k) .arena; handle = x .handle }
+  afterOne x (tried d room) = record { arena = (openOf (inLayout t d) (x .arena) room) .arena; handle = x .handle }
+  afterOne x (shortened d room k) = record { arena = (cutOpenOf (inLayout t d) (x .arena) room k) .arena; handle = x .handle }
 
   -- given another handle it is a read, a start or refused; an opening that is tried and a cut opening are refused
   abbrev pub Harmless : State → Happening → Type 0
@@ -49,8 +49,8 @@ module _ (t : Told) where
   Harmless x (aside h (start l s)) = Unit {0}
   Harmless x (aside h (step l buffer)) = (stepOf (x .arena) h l buffer) .number ≢ 0
   Harmless x (aside h (write l s buffer)) = (writeOf (x .arena) h l s buffer) .number ≢ 0
-  Harmless x (tried d work) = (openOf (inLayout t d) (x .arena) work) .number ≢ 0
-  Harmless x (shortened d work k) = (cutOpenOf (inLayout t d) (x .arena) work k) .number ≢ 0
+  Harmless x (tried d room) = (openOf (inLayout t d) (x .arena) room) .number ≢ 0
+  Harmless x (shortened d room k) = (cutOpenOf (inLayout t d) (x .arena) room k) .number ≢ 0
 
   abbrev pub AllHarmless : State → List Happening → Type 0
   AllHarmless x [] = Unit {0}
@@ -59,10 +59,10 @@ module _ (t : Told) where
   -- an opening in the handle's layout among them is refused too
   abbrev pub Refused : State → Happening → Type 0
   Refused x (latest (called c)) = Unit {0}
-  Refused x (latest (opened work)) = (openOf t (x .arena) work) .number ≢ 0
+  Refused x (latest (opened room)) = (openOf t (x .arena) room) .number ≢ 0
   Refused x (aside h c) = Unit {0}
-  Refused x (tried d work) = Unit {0}
-  Refused x (shortened d work k) = Unit {0}
+  Refused x (tried d room) = Unit {0}
+  Refused x (shortened d room k) = Unit {0}
 
   abbrev pub AllRefused : State → List Happening → Type 0
   AllRefused x [] = Unit {0}
@@ -73,13 +73,13 @@ module _ (t : Told) where
   heard x [] = []
   heard x (latest e ∷ hs) = replyEvent t x e ∷ heard (afterEvent t x e) hs
   heard x (aside h c ∷ hs) = heard (afterOne x (aside h c)) hs
-  heard x (tried d work ∷ hs) = heard (afterOne x (tried d work)) hs
-  heard x (shortened d work k ∷ hs) = heard (afterOne x (shortened d work k)) hs
+  heard x (tried d room ∷ hs) = heard (afterOne x (tried d room)) hs
+  heard x (shortened d room k ∷ hs) = heard (afterOne x (shortened d room k)) hs
 
   unfoldable pub heardCalls : State → List Happening → List Reply
   heardCalls x [] = []
   heardCalls x (latest (called c) ∷ hs) = reply x c ∷ heardCalls (after x c) hs
-  heardCalls x (latest (opened work) ∷ hs) = heardCalls (afterEvent t x (opened work)) hs
+  heardCalls x (latest (opened room) ∷ hs) = heardCalls (afterEvent t x (opened room)) hs
   heardCalls x (aside h c ∷ hs) = heardCalls (afterOne x (aside h c)) hs
-  heardCalls x (tried d work ∷ hs) = heardCalls (afterOne x (tried d work)) hs
-  heardCalls x (shortened d work k ∷ hs) = heardCalls (afterOne x (shortened d work k)) hs
+  heardCalls x (tried d room ∷ hs) = heardCalls (afterOne x (tried d room)) hs
+  heardCalls x (shortened d room k ∷ hs) = heardCalls (afterOne x (shortened d room k)) hs

@@ -7,7 +7,7 @@ use Rattle.words.specs.Bytes.{Small}
 use Rattle.layout.specs.declared.Told.{Told}
 use Rattle.machine.specs.state.Handle.{Handle}
 pub use Rattle.machine.specs.calls.Order.{Call, read, start, step, write}
-use Rattle.machine.specs.calls.Opening.{Opening, openOf}
+use Rattle.machine.specs.calls.Opening.{Room, Opening, openOf}
 use Rattle.machine.specs.calls.Reading.{readOf}
 use Rattle.machine.specs.calls.Writing.{Outcome, startOf, stepOf, writeOf}
 
@@ -23,7 +23,7 @@ says next say x (e ∷ es) = say x e ∷ says next say (next x e) es
 
 -- ---- calls
 
--- an arena and its latest handle
+-- an arena and its latest handle, with the table as the last call left it
 pub record State : Type 0 where
   pub arena : List ℕ
   pub handle : Handle
@@ -65,21 +65,21 @@ replies x cs = says after reply x cs
 
 -- ---- with openings between
 
--- a call through the latest handle, or an opening with a work buffer
+-- a call through the latest handle, or an opening with a work buffer and a table
 pub data Event : Type 0 where
   called : Call → Event
-  opened : List ℕ → Event
+  opened : Room → Event
 
 -- every opening is told the same, so that its layout is the latest handle's; its handle is the latest from then on; a refused opening gives
 -- none
 module _ (t : Told) where
   abbrev pub afterEvent : State → Event → State
   afterEvent x (called c) = after x c
-  afterEvent x (opened work) = let o = openOf t (x .arena) work in cond (eqb (o .number) 0) (openedState o) x
+  afterEvent x (opened room) = let o = openOf t (x .arena) room in cond (eqb (o .number) 0) (openedState o) x
 
   abbrev pub replyEvent : State → Event → Reply
   replyEvent x (called c) = reply x c
-  replyEvent x (opened work) = let o = openOf t (x .arena) work in record { number = o .number; buffer = o .work; mended = o .mended }
+  replyEvent x (opened room) = let o = openOf t (x .arena) room in record { number = o .number; buffer = o .work; mended = o .mended }
 
   abbrev pub runEvents : State → List Event → State
   runEvents x es = runs afterEvent x es
@@ -88,8 +88,8 @@ module _ (t : Told) where
   replyEvents x es = says afterEvent replyEvent x es
 
   -- the arena and handle that an opening gives
-  abbrev pub openedFrom : List ℕ → List ℕ → State
-  openedFrom a work = openedState (openOf t a work)
+  abbrev pub openedFrom : List ℕ → Room → State
+  openedFrom a room = openedState (openOf t a room)
 
 -- ---- lent bytes are below 256
 
@@ -104,7 +104,7 @@ SmallCalls cs = (c : Call) → List·Memᴰ c cs → SmallCall c
 
 abbrev pub SmallEvent : Event → Type 0
 SmallEvent (called c) = SmallCall c
-SmallEvent (opened work) = Small work
+SmallEvent (opened room) = Small (room .work)
 
 abbrev pub SmallEvents : List Event → Type 0
 SmallEvents es = (e : Event) → List·Memᴰ e es → SmallEvent e

@@ -12,6 +12,8 @@ use Rattle.machine.specs.calls.Order.{
   Call,
   Rule,
   badHandle,
+  shortTable,
+  badRecords,
   noSuchSector,
   wrongBuffer,
   noSuchLane,
@@ -25,21 +27,23 @@ use Rattle.machine.specs.calls.Order.{
   order,
 }
 use Rattle.machine.specs.state.Lane.{isBusy}
-use Rattle.machine.specs.state.Handle.{Handle, laneAt, laidOut, handleAllowed}
+use Rattle.machine.specs.state.Handle.{Handle, bareOf, laneAt, laidOut, handleAllowed, tableShort, recordsAllowed}
 use Rattle.machine.specs.state.Flog.{mapWord}
 
 -- a lane of the first n has sector s in flight
 unfoldable pub inFlight : List Lane → ℕ → ℕ → Bool
-inFlight lanes n s = some n (λ l. isBusy (laneAt lanes l) && eqb ((laneAt lanes l) .sector .0) s)
+inFlight table n s = some n (λ l. isBusy (laneAt table l) && eqb ((laneAt table l) .sector .0) s)
 
 abbrev pub tests : List ℕ → Handle → Rule → Bool
-tests a h badHandle = not (handleAllowed h (length a))
+tests a h badHandle = not (handleAllowed (bareOf h) (length a))
+tests a h shortTable = tableShort h
+tests a h badRecords = not (recordsAllowed h)
 tests a h (noSuchSector s) = leb (h .figures .sectors) s
 tests a h (wrongBuffer n) = not (eqb n (h .figures .size))
 tests a h (noSuchLane l) = leb (h .figures .lanes) l
-tests a h (laneBusy l) = isBusy (laneAt (h .lanes) l)
-tests a h (laneIdle l) = not (isBusy (laneAt (h .lanes) l))
-tests a h (sectorBusy s) = inFlight (h .lanes) (h .figures .lanes) s
+tests a h (laneBusy l) = isBusy (laneAt (h .table) l)
+tests a h (laneIdle l) = not (isBusy (laneAt (h .table) l))
+tests a h (sectorBusy s) = inFlight (h .table) (h .figures .lanes) s
 tests a h (badMapWord s) = badWord (h .figures .blocks) (mapWord (laidOut h) a s)
 tests a h (sloppyMapWord s) = sloppyWord (mapWord (laidOut h) a s)
 tests a h (badSector s) = eqb (readingOf (flagsOf (mapWord (laidOut h) a s))) 1

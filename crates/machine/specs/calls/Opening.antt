@@ -63,6 +63,21 @@ count (suc n) f b = count n f b + cond (eqb b (f n)) 1 0
 unfoldable pub eachOnce : Layout → (ℕ → ℕ) → (ℕ → ℕ) → Bool
 eachOnce g mapped free = every (g .I) (λ b. eqb (count (g .E) mapped b + count (g .N) free b) 1)
 
+-- ---- what is lent beside the arena
+
+-- a work buffer, and a table of lane records
+pub record Room : Type 0 where
+  pub work : List ℕ
+  pub table : List Lane
+
+-- how long they are: so many bytes, and so many records
+pub record Extent : Type 0 where
+  pub bytes : ℕ
+  pub records : ℕ
+
+abbrev pub extentOf : Room → Extent
+extentOf room = record { bytes = length (room .work); records = length (room .table) }
+
 -- ---- the rules
 
 -- rule 6: some lane is not readable
@@ -87,7 +102,7 @@ sloppy g a = wordSloppy g a || lanePadded g a
 abbrev pub unsettled : Layout → List ℕ → Bool
 unsettled g a = twoPending g a || not (eachOnce g (mapBlock g (mended g a)) (freeOf g a))
 
--- a condition of document 01's table at opening, 16 of a layout that is told, or 18 of a sloppy arena
+-- a condition of document 01's table at opening, 16 of a layout that is told, 18 of a sloppy arena, or 21 of a short table
 pub data OpenRule : Type 0 where
   wrongLayout : OpenRule
   wrongLength : OpenRule
@@ -95,6 +110,7 @@ pub data OpenRule : Type 0 where
   forbiddenFigure : OpenRule
   flagsSet : OpenRule
   shortWork : OpenRule
+  fewRecords : OpenRule
   lostLane : OpenRule
   badWords : OpenRule
   sloppyArena : OpenRule
@@ -107,6 +123,7 @@ numberOpen noInfoBlock = 2
 numberOpen forbiddenFigure = 3
 numberOpen flagsSet = 4
 numberOpen shortWork = 5
+numberOpen fewRecords = 21
 numberOpen lostLane = 6
 numberOpen badWords = 7
 numberOpen sloppyArena = 18
@@ -125,31 +142,32 @@ abbrev pub mapRules : List OpenRule
 mapRules = lostLane ∷ badWords ∷ sloppyArena ∷ notValid ∷ []
 
 abbrev pub orderOpen : List OpenRule
-orderOpen = aloneRules ++ mapRules
+orderOpen = aloneRules ++ (fewRecords ∷ mapRules)
 
--- what each rule tests, of an arena and the length of the work buffer
-abbrev pub testsOpen : Told → List ℕ → ℕ → OpenRule → Bool
+-- what each rule tests, of an arena and the lengths of what is lent beside it
+abbrev pub testsOpen : Told → List ℕ → Extent → OpenRule → Bool
 testsOpen t a room wrongLayout = not (distanceAllowed (t .distance))
 testsOpen t a room wrongLength = not (lengthAllowed (length a))
 testsOpen t a room noInfoBlock = eqb (length (infoBlockOf a)) 0
 testsOpen t a room forbiddenFigure = not (infoAllowed t (infoBlockOf a) (length a))
 testsOpen t a room flagsSet = not (flagsAllowed (infoBlockOf a))
-testsOpen t a room shortWork = ltb room ((layoutIn t a) .I)
+testsOpen t a room shortWork = ltb (room .bytes) ((layoutIn t a) .I)
+testsOpen t a room fewRecords = ltb (room .records) ((layoutIn t a) .N)
 testsOpen t a room lostLane = lanesLost (layoutIn t a) a
 testsOpen t a room badWords = wordBad (layoutIn t a) a
 testsOpen t a room sloppyArena = sloppy (layoutIn t a) a
 testsOpen t a room notValid = unsettled (layoutIn t a) a
 
-unfoldable pub openNumber : Told → List ℕ → ℕ → ℕ
+unfoldable pub openNumber : Told → List ℕ → Extent → ℕ
 openNumber t a room = answer numberOpen (testsOpen t a room) orderOpen
 
 -- ---- what it leaves
 
 -- the work buffer: alone where a rule before its use applies, otherwise its first I bytes are 0 and the rest unchanged
-unfoldable pub workAfter : Told → List ℕ → List ℕ → List ℕ
-workAfter t a work =
+unfoldable pub workAfter : Told → List ℕ → Room → List ℕ
+workAfter t a room =
     let i = (layoutIn t a) .I in
-    cond (eqb (answer numberOpen (testsOpen t a (length work)) aloneRules) 0) (replicate i 0 ++ drop i work) work
+    cond (eqb (answer numberOpen (testsOpen t a (extentOf room)) aloneRules) 0) (replicate i 0 ++ drop i (room .work)) (room .work)
 
 -- a lane as opening leaves it: old is free, the other half and the successor come next
 abbrev pub foundLane : Layout → List ℕ → ℕ → Lane
@@ -159,11 +177,13 @@ unfoldable pub foundLanes : Layout → List ℕ → ℕ → List Lane
 foundLanes g a zero = []
 foundLanes g a (suc l) = foundLanes g a l ++ (foundLane g a l ∷ [])
 
--- the handle of an accepted opening
-unfoldable pub handleFor : Told → List ℕ → Handle
-handleFor t a =
-    let g = layoutIn t a in
-    record { length = length a; distance = t .distance; figures = figuresIn a; lanes = foundLanes g a (g .N) }
+-- a table with the lanes' records put in; those past the lanes are as they came
+abbrev pub filled : Layout → List ℕ → List Lane → List Lane
+filled g a table = foundLanes g a (g .N) ++ drop (g .N) table
+
+-- the handle of an accepted opening, with the table that it was lent
+unfoldable pub handleFor : Told → List ℕ → List Lane → Handle
+handleFor t a table = record { length = length a; distance = t .distance; figures = figuresIn a; table = filled (layoutIn t a) a table }
 
 pub record Opening : Type 0 where
   pub number : ℕ
@@ -172,28 +192,28 @@ pub record Opening : Type 0 where
   pub handle : Handle
   pub work : List ℕ
 
--- an opening that is cut after its first k stores, or makes all if there are fewer; it gives no handle
-unfoldable pub cutOpenOf : Told → List ℕ → List ℕ → ℕ → Opening
-cutOpenOf t a work k =
-    let n = openNumber t a (length work) in
+-- an opening that is cut after its first k stores, or makes all if there are fewer; it gives no handle and leaves the table alone
+unfoldable pub cutOpenOf : Told → List ℕ → Room → ℕ → Opening
+cutOpenOf t a room k =
+    let n = openNumber t a (extentOf room) in
     let g = layoutIn t a in
     record {
       number = n;
       mended = cond (eqb n 0) (pendingLanes g a (g .N)) 0;
       arena = cond (eqb n 0) (putAll g (take k (mends g a (g .N))) a) a;
-      handle = noHandle;
-      work = workAfter t a work;
+      handle = noHandle (room .table);
+      work = workAfter t a room;
     }
 
--- an opening makes every store, and gives the handle
-unfoldable pub openOf : Told → List ℕ → List ℕ → Opening
-openOf t a work =
-    let n = openNumber t a (length work) in
+-- an opening makes every store, gives the handle and fills its table; a refused one leaves the table
+unfoldable pub openOf : Told → List ℕ → Room → Opening
+openOf t a room =
+    let n = openNumber t a (extentOf room) in
     let g = layoutIn t a in
     record {
       number = n;
       mended = cond (eqb n 0) (pendingLanes g a (g .N)) 0;
       arena = cond (eqb n 0) (mended g a) a;
-      handle = cond (eqb n 0) (handleFor t a) noHandle;
-      work = workAfter t a work;
+      handle = cond (eqb n 0) (handleFor t a (room .table)) (noHandle (room .table));
+      work = workAfter t a room;
     }

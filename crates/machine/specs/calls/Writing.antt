@@ -60,7 +60,7 @@ startNumber a h l s = callNumber a h (start l s)
 unfoldable pub startOf : List ℕ → Handle → ℕ → ℕ → Outcome
 startOf a h l s =
     let n = startNumber a h l s in
-    let started = withLane h l (startedLane (laneAt (h .lanes) l) s (mapBlock (laidOut h) a s)) in
+    let started = withLane h l (startedLane (laneAt (h .table) l) s (mapBlock (laidOut h) a s)) in
     record { number = n; arena = a; handle = cond (eqb n 0) started h }
 
 abbrev pub stepNumber : List ℕ → Handle → ℕ → List ℕ → ℕ
@@ -71,7 +71,7 @@ unfoldable pub stepOf : List ℕ → Handle → ℕ → List ℕ → Outcome
 stepOf a h l buffer =
     let n = stepNumber a h l buffer in
     let g = laidOut h in
-    let r = laneAt (h .lanes) l in
+    let r = laneAt (h .table) l in
     record {
       number = n;
       arena = cond (eqb n 0) (stored g (storeAt g (planOf l r) buffer (r .made)) a) a;

@@ -13,9 +13,9 @@ use Rattle.machine.specs.state.Lane.{writeStores}
 use Rattle.machine.specs.state.Handle.{Handle, laneAt}
 use Rattle.machine.specs.state.Stores.{Store, putAll}
 use Rattle.machine.specs.state.Flog.{mapBlock, newerHalf, newerWord, freeOf}
-use Rattle.machine.specs.calls.Opening.{figuresIn, layoutIn, mends, pendingLanes, openOf}
+use Rattle.machine.specs.calls.Opening.{Room, figuresIn, layoutIn, mends, pendingLanes, openOf}
 use Rattle.machine.specs.words.Records.{Idle}
-use Rattle.machine.specs.words.Valid.{EachOnce}
+use Rattle.machine.specs.words.Valid.{RoomFor, EachOnce}
 use Rattle.machine.specs.claims.Opening.{OneCut, afterCuts, CutsTold}
 use Rattle.machine.specs.calls.Reading.{readOf}
 use Rattle.machine.specs.calls.History.{runs, Call, read, start, step, write, State, reply, after, run, replies, SmallCalls, SmallEvents, justNumber, openedFrom}
@@ -80,13 +80,13 @@ wholeWrites bytes (e ∷ b) = write (e .lane) (e .sector) (bytes (e .lane)) ∷ 
 -- an arena that was opened, after any such history, all its lanes idle
 pub record Ready (t : Told) (x : State) : Type 0 where
   pub found : List ℕ
-  pub work : List ℕ
+  pub room : Room
   pub history : List Happening
   pub small : Small found
   pub small-history : SmallEvents (latestOf history)
-  pub opens : (openOf t found work) .number ≡ 0
-  pub harmless : AllHarmless t (openedFrom t found work) history
-  pub reached : x ≡ leaves t found work history
+  pub opens : (openOf t found room) .number ≡ 0
+  pub harmless : AllHarmless t (openedFrom t found room) history
+  pub reached : x ≡ leaves t found room history
   pub idle : AllIdle (x .handle)
 
 -- a list of calls, and the bytes that the write on each lane is handed
@@ -109,40 +109,42 @@ pub record AsBooked (t : Told) (x : State) (bytes : ℕ → List ℕ) (p : List 
 abbrev pub SequenceStored : List ℕ → Entry → Type 0
 SequenceStored a₁ e = (figuresIn a₁) .size / 4 + 4 ≤ e .tally
 
--- after any cut openings, refused ones included, with any work buffers: the arena and the records of all lanes end as without them
-pub record AsWithoutCuts (t : Told) (a work : List ℕ) (cuts : List OneCut) : Type 0 where
-  pub number : (openOf t (afterCuts t cuts a) work) .number ≡ 0
-  pub arena : (openOf t (afterCuts t cuts a) work) .arena ≡ (openOf t a work) .arena
-  pub handle : (openOf t (afterCuts t cuts a) work) .handle ≡ (openOf t a work) .handle
+-- after any cut openings, refused ones included, with any work buffers and tables: the arena and the records of all lanes end as without them
+pub record AsWithoutCuts (t : Told) (a : List ℕ) (room : Room) (cuts : List OneCut) : Type 0 where
+  pub number : (openOf t (afterCuts t cuts a) room) .number ≡ 0
+  pub arena : (openOf t (afterCuts t cuts a) room) .arena ≡ (openOf t a room) .arena
+  pub handle : (openOf t (afterCuts t cuts a) room) .handle ≡ (openOf t a room) .handle
 
 -- the power is cut when the first arena a₁ has become a and the book is b; the handle h that the list began with reads the first arena
-pub record AfterCut (t : Told) (a₁ : List ℕ) (h : Handle) (bytes : ℕ → List ℕ) (a : List ℕ) (b : List Entry) (work : List ℕ) : Type 0 where
-  pub number : (openOf t a work) .number ≡ 0
+pub record AfterCut (t : Told) (a₁ : List ℕ) (h : Handle) (bytes : ℕ → List ℕ) (a : List ℕ) (b : List Entry) (room : Room) : Type 0 where
+  pub number : (openOf t a room) .number ≡ 0
   -- the layout that it is told and the first handle had, the first arena's figures, and all lanes idle
-  pub layout : ((openOf t a work) .handle .distance ≡ t .distance) × (h .distance ≡ t .distance)
-  pub figures : (openOf t a work) .handle .figures ≡ figuresIn a₁
-  pub idle : AllIdle ((openOf t a work) .handle)
+  pub layout : ((openOf t a room) .handle .distance ≡ t .distance) × (h .distance ≡ t .distance)
+  pub figures : (openOf t a room) .handle .figures ≡ figuresIn a₁
+  pub idle : AllIdle ((openOf t a room) .handle)
+  -- records past the lanes are as they came
+  pub past : (l : ℕ) → (figuresIn a₁) .lanes ≤ l → laneAt ((openOf t a room) .handle .table) l ≡ laneAt (room .table) l
   -- a lane whose write's sequence word was stored has moved on: old is free, and the half that it wrote is the newer
   pub moved : (e : Entry) → List·Memᴰ e b → SequenceStored a₁ e
-      → Idle ((planIn t a₁ e) .old) (1 - (planIn t a₁ e) .half) (successor ((planIn t a₁ e) .sequence)) (laneAt ((openOf t a work) .handle .lanes) (e .lane))
+      → Idle ((planIn t a₁ e) .old) (1 - (planIn t a₁ e) .half) (successor ((planIn t a₁ e) .sequence)) (laneAt ((openOf t a room) .handle .table) (e .lane))
   -- any other lane is as opening finds it in the first arena
   pub unmoved : (l : ℕ) → l < (figuresIn a₁) .lanes → ((e : Entry) → List·Memᴰ e b → e .lane ≡ l → SequenceStored a₁ e → ⊥)
       → Idle (freeOf (layoutIn t a₁) a₁ l) (1 - newerHalf (layoutIn t a₁) a₁ l) (successor (newerWord (layoutIn t a₁) a₁ l 3))
-      (laneAt ((openOf t a work) .handle .lanes) l)
+      (laneAt ((openOf t a room) .handle .table) l)
   -- it stores just the map word of each write whose tally is S/4 + 4, and counts them
   pub stores : SameMembers (mends (layoutIn t a) a ((layoutIn t a) .N)) (lastWords t a₁ b)
-  pub arena : (openOf t a work) .arena ≡ putAll (layoutIn t a₁) (lastWords t a₁ b) a
+  pub arena : (openOf t a room) .arena ≡ putAll (layoutIn t a₁) (lastWords t a₁ b) a
   pub pending : pendingLanes (layoutIn t a) a ((layoutIn t a) .N) ≡ length (lastWords t a₁ b)
-  pub mended : (openOf t a work) .mended ≡ length (lastWords t a₁ b)
+  pub mended : (openOf t a room) .mended ≡ length (lastWords t a₁ b)
   -- a sector is new if its write's sequence word is stored: a read gives the write's bytes
   pub new : (e : Entry) → List·Memᴰ e b → SequenceStored a₁ e → (buffer : List ℕ) → length buffer ≡ (figuresIn a₁) .size
-      → readOf ((openOf t a work) .arena) ((openOf t a work) .handle) (e .sector) buffer ≡ record { number = 0; buffer = bytes (e .lane) }
+      → readOf ((openOf t a room) .arena) ((openOf t a room) .handle) (e .sector) buffer ≡ record { number = 0; buffer = bytes (e .lane) }
   -- any other sector, bad ones and buffers of wrong length included: a read answers, and leaves its buffer, as in the first arena
   pub as-before : (s : ℕ) → ((e : Entry) → List·Memᴰ e b → e .sector ≡ s → SequenceStored a₁ e → ⊥) → (buffer : List ℕ)
-      → readOf ((openOf t a work) .arena) ((openOf t a work) .handle) s buffer ≡ readOf a₁ h s buffer
+      → readOf ((openOf t a room) .arena) ((openOf t a room) .handle) s buffer ≡ readOf a₁ h s buffer
   -- mapped and free blocks are every block once
-  pub once : EachOnce (layoutIn t a₁) (mapBlock (layoutIn t a₁) ((openOf t a work) .arena)) (λ l. (laneAt ((openOf t a work) .handle .lanes) l) .block .0)
-  pub cuts : (cuts : List OneCut) → CutsTold t cuts a → AsWithoutCuts t a work cuts
+  pub once : EachOnce (layoutIn t a₁) (mapBlock (layoutIn t a₁) ((openOf t a room) .arena)) (λ l. (laneAt ((openOf t a room) .handle .table) l) .block .0)
+  pub cuts : (cuts : List OneCut) → CutsTold t cuts a → AsWithoutCuts t a room cuts
 
 -- no two writes share a byte: whatever their tallies, their stores are at different words
 abbrev pub ShareNone : Told → List ℕ → (ℕ → List ℕ) → List Entry → Type 0
@@ -165,8 +167,8 @@ pub record Promised (t : Told) (x : State) (cs : List Call) (bytes : ℕ → Lis
   pub whole : run x (takenApart (layoutIn t (x .arena)) x cs) ≡ run x cs
   -- the power is cut anywhere, inside a whole write too
   pub cut-booked : (p rest : List Call) → p ++ rest ≡ takenApart (layoutIn t (x .arena)) x cs → AsBooked t x bytes p
-  pub cut : (p rest : List Call) → p ++ rest ≡ takenApart (layoutIn t (x .arena)) x cs → (work : List ℕ) → (figuresIn (x .arena)) .blocks ≤ length work
-      → AfterCut t (x .arena) (x .handle) bytes ((run x p) .arena) (bookAfter t (x .arena) [] p) work
+  pub cut : (p rest : List Call) → p ++ rest ≡ takenApart (layoutIn t (x .arena)) x cs → (room : Room) → RoomFor (figuresIn (x .arena)) room
+      → AfterCut t (x .arena) (x .handle) bytes ((run x p) .arena) (bookAfter t (x .arena) [] p) room
 
 abbrev pub Promises : Told → Type 0
 Promises t = (x : State) (cs : List Call) (bytes : ℕ → List ℕ) → Listed t x cs bytes → Promised t x cs bytes

@@ -14,7 +14,7 @@ use Rattle.layout.specs.declared.Figures.{Figures}
 use Rattle.machine.specs.Rules.{line}
 use Rattle.machine.specs.state.Handle.{laneAt}
 use Rattle.machine.specs.calls.Making.{Wanted, wrongSizes, wrongTotal, wrongIdentifier, numberMake, orderMake, makeOf}
-use Rattle.machine.specs.calls.Opening.{figuresIn, openOf}
+use Rattle.machine.specs.calls.Opening.{Room, figuresIn, openOf}
 use Rattle.machine.specs.words.InBytes.{mapWordIn}
 use Rattle.machine.specs.words.Records.{Idle}
 use Rattle.layout.specs.Claims.{Length, Sizes, Distance}
@@ -52,15 +52,20 @@ pub record FreshBytes (o : Wanted) (f : Figures) (a m : List ℕ) : Type 0 where
   -- and from its end to the copy zero
   pub after-flog : (j : ℕ) → f .flogoff + 64 * o .lanes ≤ j → j < f .copyoff → getD m j 0 ≡ 0
 
+-- room to work in an arena with E sectors and so many lanes
+pub record FreshRoom (o : Wanted) (room : Room) : Type 0 where
+  pub bytes : o .sectors + o .lanes ≤ length (room .work)
+  pub records : o .lanes ≤ length (room .table)
+
 -- a made arena m in a layout: it is valid, and opens with none mended and no byte changed
 pub record FreshOpens (d : ℕ) (o : Wanted) (m : List ℕ) : Type 0 where
   pub valid : Valid (alone d) m
-  pub number : (work : List ℕ) → o .sectors + o .lanes ≤ length work → (openOf (alone d) m work) .number ≡ 0
-  pub mended : (work : List ℕ) → (openOf (alone d) m work) .mended ≡ 0
-  pub arena : (work : List ℕ) → (openOf (alone d) m work) .arena ≡ m
+  pub number : (room : Room) → FreshRoom o room → (openOf (alone d) m room) .number ≡ 0
+  pub mended : (room : Room) → (openOf (alone d) m room) .mended ≡ 0
+  pub arena : (room : Room) → (openOf (alone d) m room) .arena ≡ m
   -- lane l's free block is E + l; its second half and sequence 2 come next
-  pub lanes : (work : List ℕ) (l : ℕ) → o .sectors + o .lanes ≤ length work → l < o .lanes
-      → Idle (o .sectors + l) 1 2 (laneAt ((openOf (alone d) m work) .handle .lanes) l)
+  pub lanes : (room : Room) (l : ℕ) → FreshRoom o room → l < o .lanes
+      → Idle (o .sectors + l) 1 2 (laneAt ((openOf (alone d) m room) .handle .table) l)
 
 -- what holds of a made arena
 pub record FreshArena (o : Wanted) (a : List ℕ) : Type 0 where

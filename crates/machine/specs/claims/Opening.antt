@@ -14,7 +14,7 @@ use Rattle.infoblock.specs.Claims.{Fields}
 use Rattle.machine.specs.declared.lane.Lane.{Lane}
 use Rattle.machine.specs.Rules.{line}
 use Rattle.machine.specs.state.Flog.{newerFlog}
-use Rattle.machine.specs.state.Handle.{Handle, laneAt}
+use Rattle.machine.specs.state.Handle.{Handle, bareOf, laneAt}
 use Rattle.machine.specs.calls.Opening.{
   wrongLayout,
   wrongLength,
@@ -22,6 +22,7 @@ use Rattle.machine.specs.calls.Opening.{
   forbiddenFigure,
   flagsSet,
   shortWork,
+  fewRecords,
   lostLane,
   badWords,
   sloppyArena,
@@ -35,43 +36,46 @@ use Rattle.machine.specs.calls.Opening.{
   openOf,
   cutOpenOf,
   Opening,
+  Room,
+  extentOf,
 }
 use Rattle.machine.specs.words.Records.{Idle, ZeroHandle}
 use Rattle.machine.specs.words.InBytes.{flogByte, mapByte, newerIn, sectorIn, oldIn, newIn, sequenceIn, PendingIn, pendingBelow}
-use Rattle.machine.specs.words.Valid.{Valid, AnswersOpen}
+use Rattle.machine.specs.words.Valid.{Valid, RoomFor, AnswersOpen}
 
--- one cut opening: the layout that it is told, its work buffer, and how many stores it may make
+-- one cut opening: the layout that it is told, what it is lent, and how many stores it may make
 pub record OneCut : Type 0 where
   pub layout : ℕ
-  pub work : List ℕ
+  pub room : Room
   pub stores : ℕ
 
--- a refused opening leaves the arena, gives a handle of zeroes and counts nothing
-pub record RefusedOpening (a : List ℕ) (o : Opening) : Type 0 where
+-- a refused opening leaves the arena and the table, gives a handle of zeroes and counts nothing
+pub record RefusedOpening (a : List ℕ) (room : Room) (o : Opening) : Type 0 where
   pub arena : o .arena ≡ a
+  pub table : o .handle .table ≡ room .table
   pub handle : ZeroHandle (o .handle)
   pub mended : o .mended ≡ 0
 
 -- what speaks of the layout goes by what the opening is told
 module _ (t : Told) where
-  -- opening answers 0 exactly if the arena is valid and the work buffer has I bytes or more;
-  -- each of 16, 1 to 8 and 18 is given exactly when its condition holds and none before it in the row does
-  pub record OpeningAnswers (a work : List ℕ) : Type 0 where
-    pub answers : AnswersOpen t a (length work) ((openOf t a work) .number)
-    pub accepts : (openOf t a work) .number ≡ 0 → Valid t a × ((layoutIn t a) .I ≤ length work)
-    pub only : Valid t a → (layoutIn t a) .I ≤ length work → (openOf t a work) .number ≡ 0
+  -- opening answers 0 exactly if the arena is valid and there is room to work;
+  -- each of 16, 1 to 8, 18 and 21 is given exactly when its condition holds and none before it in the row does
+  pub record OpeningAnswers (a : List ℕ) (room : Room) : Type 0 where
+    pub answers : AnswersOpen t a (extentOf room) ((openOf t a room) .number)
+    pub accepts : (openOf t a room) .number ≡ 0 → Valid t a × RoomFor (figuresIn a) room
+    pub only : Valid t a → RoomFor (figuresIn a) room → (openOf t a room) .number ≡ 0
 
   -- what an opening, cut or not, leaves of the work buffer
-  pub record WorkAfter (a work : List ℕ) (o : Opening) : Type 0 where
+  pub record WorkAfter (a : List ℕ) (room : Room) (o : Opening) : Type 0 where
     -- alone on 16 and 1 to 5
-    pub alone : (o .number ≡ 16) ⊎ ((1 ≤ o .number) × (o .number ≤ 5)) → o .work ≡ work
+    pub alone : (o .number ≡ 16) ⊎ ((1 ≤ o .number) × (o .number ≤ 5)) → o .work ≡ room .work
     -- otherwise its first I bytes are 0 and the rest unchanged
-    pub cleared : (o .number ≡ 0) ⊎ ((6 ≤ o .number) × (o .number ≢ 16)) → o .work ≡ replicate ((layoutIn t a) .I) 0 ++ drop ((layoutIn t a) .I) work
-    pub size : length (o .work) ≡ length work
+    pub cleared : (o .number ≡ 0) ⊎ ((6 ≤ o .number) × (o .number ≢ 16)) → o .work ≡ replicate ((layoutIn t a) .I) 0 ++ drop ((layoutIn t a) .I) (room .work)
+    pub size : length (o .work) ≡ length (room .work)
 
   -- a cut opening of an arena, in its own layout
   abbrev pub cutBy : OneCut → List ℕ → Opening
-  cutBy c a = cutOpenOf (inLayout t (c .layout)) a (c .work) (c .stores)
+  cutBy c a = cutOpenOf (inLayout t (c .layout)) a (c .room) (c .stores)
 
   -- an arena after a list of cut openings
   unfoldable pub afterCuts : List OneCut → List ℕ → List ℕ
@@ -84,34 +88,38 @@ module _ (t : Told) where
   CutsTold (c ∷ cs) a = ((c .layout ≡ t .distance) ⊎ ((cutBy c a) .number ≢ 0)) × CutsTold cs ((cutBy c a) .arena)
 
   -- an opening after such cut openings answers and ends as without them
-  pub record CutsLeaveNoTrace (a work : List ℕ) (cuts : List OneCut) : Type 0 where
-    pub number : (openOf t (afterCuts cuts a) work) .number ≡ (openOf t a work) .number
+  pub record CutsLeaveNoTrace (a : List ℕ) (room : Room) (cuts : List OneCut) : Type 0 where
+    pub number : (openOf t (afterCuts cuts a) room) .number ≡ (openOf t a room) .number
     -- an opening that is refused for want of room leaves the arena as the cuts left it
-    pub arena : (openOf t a work) .number ≢ 5 → (openOf t (afterCuts cuts a) work) .arena ≡ (openOf t a work) .arena
-    pub handle : (openOf t (afterCuts cuts a) work) .handle ≡ (openOf t a work) .handle
-    pub work-buffer : (openOf t (afterCuts cuts a) work) .work ≡ (openOf t a work) .work
+    pub arena : (openOf t a room) .number ≢ 5 → (openOf t a room) .number ≢ 21 → (openOf t (afterCuts cuts a) room) .arena ≡ (openOf t a room) .arena
+    pub handle : (openOf t (afterCuts cuts a) room) .handle ≡ (openOf t a room) .handle
+    pub work-buffer : (openOf t (afterCuts cuts a) room) .work ≡ (openOf t a room) .work
 
   -- a cut opening is refused as opening is, counts alike and leaves the work buffer alike
-  pub record CutAnswers (a work : List ℕ) (k : ℕ) : Type 0 where
-    pub number : (cutOpenOf t a work k) .number ≡ (openOf t a work) .number
-    pub mended : (cutOpenOf t a work k) .mended ≡ (openOf t a work) .mended
-    pub work-buffer : (cutOpenOf t a work k) .work ≡ (openOf t a work) .work
-    pub handle : ZeroHandle ((cutOpenOf t a work k) .handle)
+  pub record CutAnswers (a : List ℕ) (room : Room) (k : ℕ) : Type 0 where
+    pub number : (cutOpenOf t a room k) .number ≡ (openOf t a room) .number
+    pub mended : (cutOpenOf t a room k) .mended ≡ (openOf t a room) .mended
+    pub work-buffer : (cutOpenOf t a room k) .work ≡ (openOf t a room) .work
+    pub handle : ZeroHandle ((cutOpenOf t a room k) .handle)
+    -- it leaves the table alone
+    pub table : (cutOpenOf t a room k) .handle .table ≡ room .table
     -- told a number that is at least the pending lanes, it leaves the arena that opening leaves
-    pub whole : (openOf t a work) .mended ≤ k → (cutOpenOf t a work k) .arena ≡ (openOf t a work) .arena
+    pub whole : (openOf t a room) .mended ≤ k → (cutOpenOf t a room k) .arena ≡ (openOf t a room) .arena
 
   -- the count is the number of pending lanes as found, in bytes too, and of stores
-  pub record CountIsPending (a work : List ℕ) : Type 0 where
-    pub pending : (openOf t a work) .number ≡ 0 → (openOf t a work) .mended ≡ pendingLanes (layoutIn t a) a ((layoutIn t a) .N)
-    pub in-bytes : (openOf t a work) .number ≡ 0 → (openOf t a work) .mended ≡ pendingBelow (t .distance) a ((figuresIn a) .lanes)
-    pub stores : (openOf t a work) .number ≡ 0 → (openOf t a work) .mended ≡ length (mends (layoutIn t a) a ((layoutIn t a) .N))
+  pub record CountIsPending (a : List ℕ) (room : Room) : Type 0 where
+    pub pending : (openOf t a room) .number ≡ 0 → (openOf t a room) .mended ≡ pendingLanes (layoutIn t a) a ((layoutIn t a) .N)
+    pub in-bytes : (openOf t a room) .number ≡ 0 → (openOf t a room) .mended ≡ pendingBelow (t .distance) a ((figuresIn a) .lanes)
+    pub stores : (openOf t a room) .number ≡ 0 → (openOf t a room) .mended ≡ length (mends (layoutIn t a) a ((layoutIn t a) .N))
 
   -- opening an opened arena changes nothing and mends none
-  pub record OpenedAgain (a work again : List ℕ) : Type 0 where
-    pub number : (openOf t ((openOf t a work) .arena) again) .number ≡ 0
-    pub mended : (openOf t ((openOf t a work) .arena) again) .mended ≡ 0
-    pub arena : (openOf t ((openOf t a work) .arena) again) .arena ≡ (openOf t a work) .arena
-    pub handle : (openOf t ((openOf t a work) .arena) again) .handle ≡ (openOf t a work) .handle
+  pub record OpenedAgain (a : List ℕ) (room again : Room) : Type 0 where
+    pub number : (openOf t ((openOf t a room) .arena) again) .number ≡ 0
+    pub mended : (openOf t ((openOf t a room) .arena) again) .mended ≡ 0
+    pub arena : (openOf t ((openOf t a room) .arena) again) .arena ≡ (openOf t a room) .arena
+    pub handle : bareOf ((openOf t ((openOf t a room) .arena) again) .handle) ≡ bareOf ((openOf t a room) .handle)
+    pub records : (l : ℕ) → l < (figuresIn a) .lanes
+        → laneAt ((openOf t ((openOf t a room) .arena) again) .handle .table) l ≡ laneAt ((openOf t a room) .handle .table) l
 
 -- ---- what opening finds and mends, in the bytes of an arena in which the halves of a lane start d bytes apart
 
@@ -121,15 +129,16 @@ module _ (d : ℕ) where
     pub has-newer : newerIn d a l < 2
     pub idle : Idle (oldIn d a l) (1 - newerIn d a l) (successor (sequenceIn d a l)) r
 
-  -- the handle has the arena's length, the layout and the figures, and a record of each lane
-  pub record HandleAsFound (a : List ℕ) (h : Handle) : Type 0 where
+  -- the handle has the arena's length, the layout and the figures, and its table a record of each lane; those past the lanes are as they came
+  pub record HandleAsFound (a : List ℕ) (lent : List Lane) (h : Handle) : Type 0 where
     pub size : h .length ≡ length a
     pub distance : h .distance ≡ d
     pub figures : h .figures ≡ figuresIn a
     -- each at its byte of the info block that counts
     pub fields : Fields (infoBlockOf a) (h .figures)
-    pub lanes : (l : ℕ) → l < (figuresIn a) .lanes → LaneAsFound a l (laneAt (h .lanes) l)
-    pub count : length (h .lanes) ≡ (figuresIn a) .lanes
+    pub lanes : (l : ℕ) → l < (figuresIn a) .lanes → LaneAsFound a l (laneAt (h .table) l)
+    pub count : length (h .table) ≡ length lent
+    pub past : (l : ℕ) → (figuresIn a) .lanes ≤ l → laneAt (h .table) l ≡ laneAt lent l
 
   -- map[sector] of each of these lanes gets flags 11 and new, and no other byte changes
   pub record MendedFor (these : ℕ → Type 0) (a after : List ℕ) : Type 0 where
@@ -150,26 +159,26 @@ module _ (d : ℕ) where
   abbrev pub MendedUpTo : List ℕ → ℕ → List ℕ → Type 0
   MendedUpTo a k after = MendedFor (λ l. PendingIn d a l × (pendingBelow d a l < k)) a after
 
--- all of it, for any bytes lent as an arena and any work buffers
+-- all of it, for any bytes lent as an arena, and any work buffers and tables
 pub record OpeningClaimFor (t : Told) : Type 0 where
-  -- 16 first, then 1 to 8 in order, 18 after 7
+  -- 16 first, then 1 to 8 in order, 21 after 5 and 18 after 7
   pub order : line numberOpen orderOpen
-      ≡ (16, wrongLayout) ∷ (1, wrongLength) ∷ (2, noInfoBlock) ∷ (3, forbiddenFigure) ∷ (4, flagsSet) ∷ (5, shortWork) ∷ (6, lostLane) ∷ (7, badWords)
-      ∷ (18, sloppyArena) ∷ (8, notValid) ∷ []
-  pub answers : (a work : List ℕ) → Small a → OpeningAnswers t a work
-  pub refused : (a work : List ℕ) → (openOf t a work) .number ≢ 0 → RefusedOpening a (openOf t a work)
-  pub refused-cut : (a work : List ℕ) (k : ℕ) → (openOf t a work) .number ≢ 0 → RefusedOpening a (cutOpenOf t a work k)
-  pub work : (a work : List ℕ) → WorkAfter t a work (openOf t a work)
-  pub cut : (a work : List ℕ) (k : ℕ) → CutAnswers t a work k
-  pub cuts : (a work : List ℕ) (cuts : List OneCut) → Small a → CutsTold t cuts a → CutsLeaveNoTrace t a work cuts
-  pub count : (a work : List ℕ) → CountIsPending t a work
-  pub again : (a work again : List ℕ) → Small a → (openOf t a work) .number ≡ 0 → (layoutIn t a) .I ≤ length again → OpenedAgain t a work again
-  pub handle : (a work : List ℕ) → Small a → (openOf t a work) .number ≡ 0 → HandleAsFound (t .distance) a ((openOf t a work) .handle)
+      ≡ (16, wrongLayout) ∷ (1, wrongLength) ∷ (2, noInfoBlock) ∷ (3, forbiddenFigure) ∷ (4, flagsSet) ∷ (5, shortWork) ∷ (21, fewRecords) ∷ (6, lostLane)
+      ∷ (7, badWords) ∷ (18, sloppyArena) ∷ (8, notValid) ∷ []
+  pub answers : (a : List ℕ) (room : Room) → Small a → OpeningAnswers t a room
+  pub refused : (a : List ℕ) (room : Room) → (openOf t a room) .number ≢ 0 → RefusedOpening a room (openOf t a room)
+  pub refused-cut : (a : List ℕ) (room : Room) (k : ℕ) → (openOf t a room) .number ≢ 0 → RefusedOpening a room (cutOpenOf t a room k)
+  pub work : (a : List ℕ) (room : Room) → WorkAfter t a room (openOf t a room)
+  pub cut : (a : List ℕ) (room : Room) (k : ℕ) → CutAnswers t a room k
+  pub cuts : (a : List ℕ) (room : Room) (cuts : List OneCut) → Small a → CutsTold t cuts a → CutsLeaveNoTrace t a room cuts
+  pub count : (a : List ℕ) (room : Room) → CountIsPending t a room
+  pub again : (a : List ℕ) (room again : Room) → Small a → (openOf t a room) .number ≡ 0 → RoomFor (figuresIn a) again → OpenedAgain t a room again
+  pub handle : (a : List ℕ) (room : Room) → Small a → (openOf t a room) .number ≡ 0 → HandleAsFound (t .distance) a (room .table) ((openOf t a room) .handle)
   -- a lane's newer half is the four words there
-  pub newer-half : (a work : List ℕ) → Small a → (openOf t a work) .number ≡ 0 → (l : ℕ)
+  pub newer-half : (a : List ℕ) (room : Room) → Small a → (openOf t a room) .number ≡ 0 → (l : ℕ)
       → HalfFrom a (flogByte (t .distance) (figuresIn a) l (newerIn (t .distance) a l) 0) (newerFlog (layoutIn t a) a l)
-  pub mends : (a work : List ℕ) → Small a → (openOf t a work) .number ≡ 0 → Mended (t .distance) a ((openOf t a work) .arena)
-  pub cut-mends : (a work : List ℕ) (k : ℕ) → Small a → (cutOpenOf t a work k) .number ≡ 0 → MendedUpTo (t .distance) a k ((cutOpenOf t a work k) .arena)
+  pub mends : (a : List ℕ) (room : Room) → Small a → (openOf t a room) .number ≡ 0 → Mended (t .distance) a ((openOf t a room) .arena)
+  pub cut-mends : (a : List ℕ) (room : Room) (k : ℕ) → Small a → (cutOpenOf t a room k) .number ≡ 0 → MendedUpTo (t .distance) a k ((cutOpenOf t a room k) .arena)
 
 -- an arena that is opened by itself, told any layout
 abbrev pub OpeningClaim : Type 0

@@ -12,6 +12,8 @@ use Rattle.machine.specs.Rules.{answer}
 use Rattle.machine.specs.calls.Order.{
   Rule,
   badHandle,
+  shortTable,
+  badRecords,
   noSuchSector,
   wrongBuffer,
   noSuchLane,
@@ -80,9 +82,11 @@ module _ (t : Told) (a : List ℕ) where
 
   -- ---- answers
 
-  -- what each rule tests in the book; 16, 7 and 18 never apply, and a sector is bad that is so in the first arena and has no finished write
+  -- what each rule tests in the book; 16, 21, 7 and 18 never apply, and a sector is bad that is so in the first arena and has no finished write
   abbrev pub bookTests : List Entry → Rule → Bool
   bookTests b badHandle = false
+  bookTests b shortTable = false
+  bookTests b badRecords = false
   bookTests b (noSuchSector s) = leb ((figuresIn a) .sectors) s
   bookTests b (wrongBuffer n) = not (eqb n ((figuresIn a) .size))
   bookTests b (noSuchLane l) = leb ((figuresIn a) .lanes) l
@@ -117,11 +121,11 @@ module _ (t : Told) (a : List ℕ) where
     bytesOf [] s buffer = buffer
     bytesOf (e ∷ b) s buffer = cond (eqb (e .sector) s && not (inFlightYet e)) (bytes (e .lane)) (bytesOf b s buffer)
 
-    -- any other sector reads as in the first arena
+    -- any other sector reads as in the first arena, through the handle of an opening with a table of just the lanes
     unfoldable pub bookRead : List Entry → ℕ → List ℕ → Read
     bookRead b s buffer =
         let n = bookNumber b (read s buffer) in
-        let found = cond (sectorDone b s) (bytesOf b s buffer) ((readOf a (handleFor t a) s buffer) .buffer) in
+        let found = cond (sectorDone b s) (bytesOf b s buffer) ((readOf a (handleFor t a []) s buffer) .buffer) in
         record { number = n; buffer = cond (eqb n 0) found buffer }
 
     unfoldable pub bookReply : List Entry → Call → Reply

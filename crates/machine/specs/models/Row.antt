@@ -11,6 +11,8 @@ use Rattle.machine.specs.Rules.{answer}
 use Rattle.machine.specs.calls.Order.{
   Rule,
   badHandle,
+  shortTable,
+  badRecords,
   noSuchSector,
   wrongBuffer,
   noSuchLane,
@@ -24,6 +26,8 @@ use Rattle.machine.specs.calls.Order.{
   order,
 }
 use Rattle.machine.specs.calls.Opening.{
+  Extent,
+  extentOf,
   OpenRule,
   wrongLayout,
   wrongLength,
@@ -31,6 +35,7 @@ use Rattle.machine.specs.calls.Opening.{
   forbiddenFigure,
   flagsSet,
   shortWork,
+  fewRecords,
   lostLane,
   badWords,
   sloppyArena,
@@ -97,9 +102,11 @@ abbrev pub lacksLast : Figures → Flight → Bool
 lacksLast f idle = false
 lacksLast f (flying s made bytes) = eqb (made + 1) (storesOf f)
 
--- what each rule tests in the row; 16, 7 and 18 never apply
+-- what each rule tests in the row; 16, 21, 7 and 18 never apply
 abbrev pub rowTests : Figures → Row → Rule → Bool
 rowTests f row badHandle = false
+rowTests f row shortTable = false
+rowTests f row badRecords = false
 rowTests f row (noSuchSector s) = leb (f .sectors) s
 rowTests f row (wrongBuffer n) = not (eqb n (f .size))
 rowTests f row (noSuchLane l) = leb (f .lanes) l
@@ -186,35 +193,38 @@ abbrev pub reopened : Figures → Row → Row
 reopened f row = record { sector = settled f row (f .lanes); lane = λ l. idle }
 
 -- what each rule of an opening tests in the row: it is refused only for want of room
-abbrev pub rowOpenTests : Figures → ℕ → OpenRule → Bool
+abbrev pub rowOpenTests : Figures → Extent → OpenRule → Bool
 rowOpenTests f room wrongLayout = false
 rowOpenTests f room wrongLength = false
 rowOpenTests f room noInfoBlock = false
 rowOpenTests f room forbiddenFigure = false
 rowOpenTests f room flagsSet = false
-rowOpenTests f room shortWork = ltb room (f .blocks)
+rowOpenTests f room shortWork = ltb (room .bytes) (f .blocks)
+rowOpenTests f room fewRecords = ltb (room .records) (f .lanes)
 rowOpenTests f room lostLane = false
 rowOpenTests f room badWords = false
 rowOpenTests f room sloppyArena = false
 rowOpenTests f room notValid = false
 
-unfoldable pub rowOpenNumber : Figures → ℕ → ℕ
+unfoldable pub rowOpenNumber : Figures → Extent → ℕ
 rowOpenNumber f room = answer numberOpen (rowOpenTests f room) orderOpen
+
+-- the work buffer: alone where it is short, else its first I bytes are 0
+unfoldable pub rowWork : Figures → List ℕ → List ℕ
+rowWork f work = cond (ltb (length work) (f .blocks)) work (replicate (f .blocks) 0 ++ drop (f .blocks) work)
 
 unfoldable pub rowReplyEvent : Figures → Row → Event → Reply
 rowReplyEvent f row (called c) = rowReply f row c
-rowReplyEvent f row (opened work) =
-    let n = rowOpenNumber f (length work) in
-    cond (eqb n 0)
-    (record { number = n; buffer = replicate (f .blocks) 0 ++ drop (f .blocks) work; mended = lacking f row (f .lanes) })
-    (record { number = n; buffer = work; mended = 0 })
+rowReplyEvent f row (opened room) =
+    let n = rowOpenNumber f (extentOf room) in
+    record { number = n; buffer = rowWork f (room .work); mended = cond (eqb n 0) (lacking f row (f .lanes)) 0 }
 
 -- ---- lists of calls and openings
 
 module _ (keep : Keeping) where
   unfoldable pub rowAfterEvent : Figures → Row → Event → Row
   rowAfterEvent f row (called c) = rowAfter keep f row c
-  rowAfterEvent f row (opened work) = cond (eqb (rowOpenNumber f (length work)) 0) (reopened f row) row
+  rowAfterEvent f row (opened room) = cond (eqb (rowOpenNumber f (extentOf room)) 0) (reopened f row) row
 
   abbrev pub rowAfterAll : Figures → Row → List Event → Row
   rowAfterAll f row es = runs (rowAfterEvent f) row es
@@ -233,7 +243,7 @@ SameBuffer f row (called (read s buffer)) = Unit {0}
 SameBuffer f row (called (start l s)) = Unit {0}
 SameBuffer f row (called (step l buffer)) = rowNumber f row (step l buffer) ≡ 0 → SameFlight buffer (row .lane l)
 SameBuffer f row (called (write l s buffer)) = Unit {0}
-SameBuffer f row (opened work) = Unit {0}
+SameBuffer f row (opened room) = Unit {0}
 
 abbrev pub OneBuffer : Figures → Row → List Event → Type 0
 OneBuffer f row [] = Unit {0}

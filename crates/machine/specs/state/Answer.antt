@@ -21,6 +21,7 @@ use Rattle.machine.specs.declared.answer.Answer.the-variants.{
   BadHandle,
   Sloppy,
   BadRecord,
+  ShortTable,
 }
 
 abbrev pub numberOf : Answer → ℕ
@@ -43,3 +44,4 @@ numberOf BadSector = 15
 numberOf BadHandle = 16
 numberOf Sloppy = 18
 numberOf BadRecord = 20
+numberOf ShortTable = 21

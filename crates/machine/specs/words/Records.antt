@@ -1,11 +1,8 @@
 -- Records field by field: a lane's as document 01 has it after opening, a start, a store and the last store, and the handle of zeroes.
 use mathlib.Core.Path.{_≡_}
-use mathlib.Core.List.{[]}
 use Prim.Native.Nat.{ℕ, _+_}
-use lib.ListN.{length}
 use Rattle.layout.specs.declared.Figures.{Figures}
-use Rattle.machine.specs.state.Handle.{Handle, laneAt}
-use Rattle.machine.specs.declared.handle.Handle as packed
+use Rattle.machine.specs.state.Handle.{Handle}
 use Rattle.machine.specs.declared.lane.Lane.{Lane}
 
 -- idle, with free block b, next half h and next sequence q; its sector, old and stores made are 0
@@ -49,17 +46,8 @@ pub record ZeroFigures (f : Figures) : Type 0 where
   pub flog-start : f .flogoff ≡ 0
   pub copy-start : f .copyoff ≡ 0
 
--- the handle that a refused opening gives
+-- the handle that a refused opening gives, its table apart
 pub record ZeroHandle (h : Handle) : Type 0 where
   pub total : h .length ≡ 0
   pub distance : h .distance ≡ 0
   pub figures : ZeroFigures (h .figures)
-  pub lanes : h .lanes ≡ []
-
--- the same as the code keeps it, with an array of 16 records
-pub record ZeroPacked (p : packed.Handle) : Type 0 where
-  pub total : p .length ≡ 0
-  pub distance : p .distance ≡ 0
-  pub figures : ZeroFigures (p .figures)
-  pub records : length (p .lanes) ≡ 16
-  pub lanes : (l : ℕ) → Idle 0 0 0 (laneAt (p .lanes) l)

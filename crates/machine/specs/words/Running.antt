@@ -13,6 +13,8 @@ use Rattle.machine.specs.calls.Order.{
   Call,
   Rule,
   badHandle,
+  shortTable,
+  badRecords,
   noSuchSector,
   wrongBuffer,
   noSuchLane,
@@ -40,28 +42,32 @@ pub record LaneOk (g : Layout) (r : Lane) : Type 0 where
   pub sector : r .sector .0 < g .E
   pub made : r .made < g .W + 5
 
--- rule 16 does not apply: the slice's length is allowed and the handle's, its layout is 16 or 32, its figures are allowed, and every lane's
--- record is in range
+-- rule 16 does not apply to the handle: the slice's length is allowed and the handle's, its layout is 16 or 32, and its figures are allowed
 pub record HandleOk (h : Handle) (n : ℕ) : Type 0 where
   pub size : Length n
   pub match : h .length ≡ n
   pub distance : Distance (h .distance)
   pub figures : Allowed (h .figures) n
-  pub lanes : (l : ℕ) → l < h .figures .lanes → LaneOk (laidOut h) (laneAt (h .lanes) l)
+
+-- it does not apply to the records: every lane's is in range
+abbrev pub RecordsOk : Handle → Type 0
+RecordsOk h = (l : ℕ) → l < h .figures .lanes → LaneOk (laidOut h) (laneAt (h .table) l)
 
 -- a lane below n has a write to sector s in flight
 abbrev pub InFlight : List Lane → ℕ → ℕ → Type 0
-InFlight lanes n s = (l : ℕ) × (l < n) × ((laneAt lanes l) .busy ≢ 0) × ((laneAt lanes l) .sector .0 ≡ s)
+InFlight table n s = (l : ℕ) × (l < n) × ((laneAt table l) .busy ≢ 0) × ((laneAt table l) .sector .0 ≡ s)
 
 -- each rule of the table in words, of an arena and a handle; 15 is for bit 30 alone
 abbrev pub Holds : List ℕ → Handle → Rule → Type 0
 Holds a h badHandle = HandleOk h (length a) → ⊥
+Holds a h shortTable = length (h .table) < h .figures .lanes
+Holds a h badRecords = RecordsOk h → ⊥
 Holds a h (noSuchSector s) = h .figures .sectors ≤ s
 Holds a h (wrongBuffer n) = n ≢ h .figures .size
 Holds a h (noSuchLane l) = h .figures .lanes ≤ l
-Holds a h (laneBusy l) = (laneAt (h .lanes) l) .busy ≢ 0
-Holds a h (laneIdle l) = (laneAt (h .lanes) l) .busy ≡ 0
-Holds a h (sectorBusy s) = InFlight (h .lanes) (h .figures .lanes) s
+Holds a h (laneBusy l) = (laneAt (h .table) l) .busy ≢ 0
+Holds a h (laneIdle l) = (laneAt (h .table) l) .busy ≡ 0
+Holds a h (sectorBusy s) = InFlight (h .table) (h .figures .lanes) s
 Holds a h (badMapWord s) = BadWord (h .figures .blocks) (mapWord (laidOut h) a s)
 Holds a h (sloppyMapWord s) = SloppyWord (mapWord (laidOut h) a s)
 Holds a h (badSector s) = Bit30Alone (mapWord (laidOut h) a s)

@@ -48,14 +48,14 @@ pub record OneWord (a after : List ℕ) (o w : ℕ) : Type 0 where
   pub word : byteWord after o ≡ w
   pub kept : (j : ℕ) → (j < o) ⊎ (o + 4 ≤ j) → getD after j 0 ≡ getD a j 0
 
--- the handle has only lane l's record changed, and of that P holds now
+-- the handle has only the table's record l changed, and of that P holds now; records past the lanes are kept too
 pub record OneRecord (h after : Handle) (l : ℕ) (P : Lane → Type 0) : Type 0 where
   pub size : after .length ≡ h .length
   pub distance : after .distance ≡ h .distance
   pub figures : after .figures ≡ h .figures
-  pub count : length (after .lanes) ≡ length (h .lanes)
-  pub changed : P (laneAt (after .lanes) l)
-  pub kept : (j : ℕ) → j ≢ l → laneAt (after .lanes) j ≡ laneAt (h .lanes) j
+  pub count : length (after .table) ≡ length (h .table)
+  pub changed : P (laneAt (after .table) l)
+  pub kept : (j : ℕ) → j ≢ l → laneAt (after .table) j ≡ laneAt (h .table) j
 
 -- an accepted step: store k, where k stores were made before, of one aligned word
 pub record StepTable (a : List ℕ) (h : Handle) (l : ℕ) (buffer : List ℕ) (r : Lane) (o : Outcome) : Type 0 where

@@ -3,7 +3,7 @@ use mathlib.Core.Path.{_≡_}
 use mathlib.Core.Logic.{_≢_, _⊎_}
 use mathlib.Core.Bool.{cond}
 use mathlib.Core.List.{List}
-use Prim.Native.Nat.{ℕ, _+_, _-_, _<_}
+use Prim.Native.Nat.{ℕ, _+_, _-_, _≤_, _<_}
 use lib.Dec.{ltb}
 use lib.ListN.{length, getD, take, drop}
 use Rattle.words.specs.Bytes.{byteWord}
@@ -21,6 +21,8 @@ use Rattle.machine.specs.calls.Making.{Wanted, MakeRule, wrongSizes, wro
 use Rattle.machine.specs.calls.Opening.{
   figuresIn,
   layoutIn,
+  Room,
+  Extent,
   OpenRule,
   wrongLayout,
   wrongLength,
@@ -28,6 +30,7 @@ use Rattle.machine.specs.calls.Opening.{
   forbiddenFigure,
   flagsSet,
   shortWork,
+  fewRecords,
   lostLane,
   badWords,
   sloppyArena,
@@ -92,7 +95,7 @@ pub record Settled (g : Layout) (a : List ℕ) : Type 0 where
   pub mended : (s : ℕ) → s < g .E → MendedBlock g a s (mapped s)
   pub once : EachOnce g mapped (freeOf g a)
 
--- an arena that, in the layout told, passes 16, 1 to 4, 6, 7 and 18 and is settled (5 is about the work buffer)
+-- an arena that, in the layout told, passes 16, 1 to 4, 6, 7 and 18 and is settled (5 and 21 are about what is lent beside it)
 pub record Valid (t : Told) (a : List ℕ) : Type 0 where
   pub layout : Distance (t .distance)
   pub size : Length (length a)
@@ -104,23 +107,29 @@ pub record Valid (t : Told) (a : List ℕ) : Type 0 where
   pub clean : Clean (t .distance) (figuresIn a) a
   pub settled : Settled (layoutIn t a) a
 
+-- room to work in an arena with such figures: a work buffer of I bytes or more, and a record for each lane or more
+pub record RoomFor (f : Figures) (room : Room) : Type 0 where
+  pub bytes : f .blocks ≤ length (room .work)
+  pub records : f .lanes ≤ length (room .table)
+
 -- ---- the rules of opening and of making in words
 
--- each rule of opening, of an arena and the length of the work buffer
-abbrev pub HoldsOpen : Told → List ℕ → ℕ → OpenRule → Type 0
+-- each rule of opening, of an arena and the lengths of the work buffer and the table
+abbrev pub HoldsOpen : Told → List ℕ → Extent → OpenRule → Type 0
 HoldsOpen t a room wrongLayout = Distance (t .distance) → ⊥
 HoldsOpen t a room wrongLength = Length (length a) → ⊥
 HoldsOpen t a room noInfoBlock = (Sound (take 4096 a) → ⊥) × (Sound (drop (length a - 4096) a) → ⊥)
 HoldsOpen t a room forbiddenFigure = InfoOk (t .next) (infoBlockOf a) (length a) → ⊥
 HoldsOpen t a room flagsSet = byteWord (infoBlockOf a) 48 ≢ 0
-HoldsOpen t a room shortWork = room < (layoutIn t a) .I
+HoldsOpen t a room shortWork = room .bytes < (layoutIn t a) .I
+HoldsOpen t a room fewRecords = room .records < (figuresIn a) .lanes
 HoldsOpen t a room lostLane = (l : ℕ) × (l < (layoutIn t a) .N) × (Readable (layoutIn t a) a l → ⊥)
 HoldsOpen t a room badWords = (s : ℕ) × (s < (layoutIn t a) .E) × BadWord ((layoutIn t a) .I) (mapWord (layoutIn t a) a s)
 HoldsOpen t a room sloppyArena = SloppyIn (t .distance) (figuresIn a) a
 HoldsOpen t a room notValid = Settled (layoutIn t a) a → ⊥
 
 -- n is the answer of an opening by its line of the table
-abbrev pub AnswersOpen : Told → List ℕ → ℕ → ℕ → Type 0
+abbrev pub AnswersOpen : Told → List ℕ → Extent → ℕ → Type 0
 AnswersOpen t a room n = FirstOf numberOpen (HoldsOpen t a room) orderOpen n
 
 -- each rule of making, of what is wanted and the slice's length

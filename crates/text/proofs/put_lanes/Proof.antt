@@ -1,41 +1,33 @@
 -- `text::put_lanes` meets its contract. The loop's invariant: the lines of the lanes below l are stored, each at most 48 bytes long.
 -- The measure is the number of lanes left.
-use Rattle.text.specs.Text.{lanesText}
-use Rattle.text.specs.Put.{Put}
-use lib.ListN.{length, take}
+use mathlib.Core.Path.{sym, _∙_}
+use mathlib.Core.List.{[]}
 use Prim.Native.Nat.{_-_, _+_, _*_, _≤_}
-use mathlib.Core.Path.{_≡_}
+use native.Mathlib.Nat.{le-antisymm}
 use native.Mathlib.Omega.{arith}
 use borrow.Author.Needs.{needs}
-use Rattle.machine.proofs.calls.Rule16.{unmapped, lane-taken}
-use Rattle.text.proofs.Laws.{lanes-none, lanes-more, put-length}
-use native.Mathlib.Nat.{le-antisymm}
+use Rattle.text.specs.Put.{Put}
+use Rattle.text.specs.Opened.{opened}
+use Rattle.text.specs.Text.{lanesText}
+use Rattle.text.proofs.Laws.{lanes-none, lanes-more, found-at, put-length}
 use Rattle.text.proofs.put_lanes.Statement.{statement}
 use Rattle.text.proofs.put_lanes.Tie as tie
 
 abbrev Inv-loop : tie.InvT-loop
-Inv-loop out₀ at h n l₀ next₀ out l next =
-    (l ≤ n) × (next ≤ at + 48 * l) × (length (h .lanes) ≡ 16) × Put out₀ out at next (lanesText (take (h .figures .lanes) (h .lanes)) l)
+Inv-loop out₀ at arena h n l₀ next₀ out l next =
+    (l ≤ n) × (next ≤ at + 48 * l) × Put out₀ out at next (lanesText (opened h arena .table) l)
 
 abbrev μ-loop : tie.MeasureT-loop
-μ-loop out₀ at h n l₀ next₀ out l next = n - l
+μ-loop out₀ at arena h n l₀ next₀ out l next = n - l
 
 loop-holds : tie.Need-loop-holds Inv-loop μ-loop
-loop-holds c =
-    let n = unmapped _ (c .before .args .t3 .lanes) 16 (c .before .good .1 .1 .0 .1 .1 .1 .1 .1 .0 .1 .0 .1) in
-    (search needs, search needs, n, lanes-none _ _ _)
+loop-holds c = (search needs, search needs, lanes-none _ _ _)
 
-cast-lane : tie.Need-cast-lane Inv-loop μ-loop
-cast-lane c = search needs
-
-mul-lane : tie.Need-mul-lane Inv-loop μ-loop
-mul-lane c = search needs
-
-element-copy-out-lane : tie.Need-element-copy-out-lane Inv-loop μ-loop
-element-copy-out-lane c = search needs
+found-lane-requires : tie.Need-found-lane-requires Inv-loop μ-loop
+found-lane-requires c κs = c .before .before .before .before .pre .0 _ (c .loop-test .taken)
 
 put-lane-requires : tie.Need-put-lane-requires Inv-loop μ-loop
-put-lane-requires c κs = omega (arith, put-length (c .before .before .before .loop .inv .3))
+put-lane-requires c κs = omega (arith, put-length (c .before .before .before .loop .inv .2))
 
 add-l : tie.Need-add-l Inv-loop μ-loop
 add-l c = search needs
@@ -45,19 +37,18 @@ loop-less c = search needs
 
 loop-again : tie.Need-loop-again Inv-loop μ-loop
 loop-again c =
-    let x = c .before .before .before .before .before in
-    let i = x .before .loop .inv in
-    let h = x .before .before .before .args .t3 in
-    let e = lane-taken (h .lanes) (h .figures .lanes) (x .before .loop .l) (x .loop-test .taken) in
-    (search needs, search needs, i .2, lanes-more _ _ (i .3) (rw e (c .before .before .put-lane .ensures .0)))
+    let f = c .before .before .before .before in
+    let x = f .before .before in
+    let e = found-at (x .before .before .before .args .h) _ [] _ (f .before .loop-test .taken) ∙ sym (f .found-lane .ensures) in
+    (search needs, search needs, lanes-more _ _ (x .loop .inv .2) (rw e (c .before .before .put-lane .ensures .0)))
 
 same-length : tie.Need-same-length Inv-loop μ-loop
-same-length c = put-length (c .before .loop .inv .3)
+same-length c = put-length (c .before .loop .inv .2)
 
 returns : tie.Need-returns Inv-loop μ-loop
 returns c =
     let e = le-antisymm (c .before .loop .inv .0) (c .loop-test .left) in
-    (rw e at (c .before .loop .inv .3), search needs)
+    (rw e at (c .before .loop .inv .2), search needs)
 
 pub put-lanes-spec : {M : Type 1} → statement M
 put-lanes-spec =
@@ -66,9 +57,7 @@ put-lanes-spec =
     Inv-loop
     μ-loop
     loop-holds
-    cast-lane
-    mul-lane
-    element-copy-out-lane
+    found-lane-requires
     put-lane-requires
     add-l
     loop-less

@@ -1,5 +1,4 @@
-//! What stands in an arena: the info block and its figures, map words, and the halves of the flog. A handle without lanes serves for the
-//! figures.
+//! What stands in an arena: the info block and its figures, map words, and the halves of the flog. A handle serves for the figures.
 use crate::bytes::{long, put_long, put_word, word, words};
 use btt::{Handle, Identifiers, INFO_SIZE, MAX_ARENA, MAX_LANES, MIN_ARENA};
 

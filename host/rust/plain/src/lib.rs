@@ -2,7 +2,7 @@
 //!
 //! The tests of host/rust try the library against it, and bench times the library beside it. Its calls take the same arguments, make
 //! the same checks in the same order and leave the same bytes as the library's. With the library's wrapper it shares the types that
-//! stand at the boundary, and no code: a handle, its lanes, the answers, and what a replay did.
+//! stand at the boundary, and no code: a handle, the record of a lane, the answers, and what a replay did.
 //!
 //! No call is inlined, so that a loop that times it pays for a call, as with the library.
 mod bytes;

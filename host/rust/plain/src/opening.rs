@@ -79,30 +79,38 @@ fn each_block_once(map: &[u8], lanes: &[Newer], marks: &mut [u8]) -> bool {
     for lane in lanes {
         mark(if lane.pending { lane.new } else { lane.old });
     }
-    let same = |a: &Newer, b: &Newer| a.pending && b.pending && a.sector == b.sector;
-    once && !lanes.iter().enumerate().any(|(i, lane)| lanes[..i].iter().any(|other| same(lane, other)))
+    let written = |sector: u32, lanes: &[Newer]| lanes.iter().any(|lane| lane.pending && lane.sector == sector);
+    once && !lanes.iter().enumerate().any(|(i, lane)| lane.pending && written(lane.sector, &lanes[..i]))
 }
 
-/// Rules 6, 7, 18 and 8.
-fn judge_map(arena: &[u8], figures: &Handle, marks: &mut [u8]) -> Result<[Newer; MAX_LANES], Answer> {
-    let mut lanes = [Newer::default(); MAX_LANES];
-    for lane in 0..figures.lanes {
-        lanes[lane as usize] = Newer::of_lane(arena, figures, lane)?;
+/// Rules 6, 7, 18 and 8; the newer halves are put into the places lent for them.
+fn judge_map(arena: &[u8], figures: &Handle, lanes: &mut [Newer], marks: &mut [u8]) -> Result<(), Answer> {
+    for (number, lane) in (0..).zip(&mut *lanes) {
+        *lane = Newer::of_lane(arena, figures, number)?;
     }
     let map = &arena[figures.map as usize..][..4 * figures.sectors as usize];
     judge_words(arena, figures, map)?;
     marks.fill(0);
-    require(each_block_once(map, &lanes[..figures.lanes as usize], marks), Answer::NotValid)?;
-    Ok(lanes)
+    require(each_block_once(map, lanes, marks), Answer::NotValid)
 }
 
-/// Judges an arena; nothing is stored to it.
-fn judge(arena: &[u8], work: &mut [u8], layout: u32) -> Result<(Handle, [Newer; MAX_LANES]), Answer> {
+/// Room for the newer halves of every lane.
+type Halves = [Newer; MAX_LANES];
+
+/// Judges an arena, and a table of so many records; nothing is stored to it. Gives the figures, and the newer half of each lane.
+fn judge<'h>(
+    arena: &[u8],
+    work: &mut [u8],
+    layout: u32,
+    records: usize,
+    halves: &'h mut Halves,
+) -> Result<(Handle, &'h [Newer]), Answer> {
     let figures = judge_info(arena, layout)?;
     let marks = work.get_mut(..figures.blocks as usize).ok_or(Answer::ShortWorkBuffer)?;
-    let lanes = judge_map(arena, &figures, marks);
+    let lanes = &mut halves[..figures.lanes as usize];
+    let outcome = require(lanes.len() <= records, Answer::ShortTable).and_then(|()| judge_map(arena, &figures, lanes, marks));
     marks.fill(0);
-    Ok((figures, lanes?))
+    outcome.map(|()| (figures, &*lanes))
 }
 
 /// Stores the map words that the first k pending lanes lack, and counts all the pending lanes.
@@ -117,21 +125,22 @@ fn mend(arena: &mut [u8], figures: &Handle, lanes: &[Newer], k: u32) -> u32 {
     pending
 }
 
-/// Opens an arena in a layout: its handle, and how many lanes were pending.
+/// Opens an arena in a layout: its handle, and how many lanes were pending. Of the table the lanes' records are set.
 #[inline(never)]
-pub fn open(arena: &mut [u8], work: &mut [u8], layout: u32) -> Result<Opened, Answer> {
-    let (mut handle, lanes) = judge(arena, work, layout)?;
-    let lanes = &lanes[..handle.lanes as usize];
+pub fn open(arena: &mut [u8], work: &mut [u8], layout: u32, table: &mut [Lane]) -> Result<Opened, Answer> {
+    let mut halves = [Newer::default(); MAX_LANES];
+    let (handle, lanes) = judge(arena, work, layout, table.len(), &mut halves)?;
     let mended = mend(arena, &handle, lanes, u32::MAX);
-    for (record, lane) in handle.lane.iter_mut().zip(lanes) {
+    for (record, lane) in table.iter_mut().zip(lanes) {
         *record = lane.record();
     }
     Ok(Opened { handle, mended })
 }
 
-/// An opening that stops after k stores: how many lanes were pending.
+/// An opening that stops after k stores: how many lanes were pending. Of the table only the length counts.
 #[inline(never)]
-pub fn cut_open(arena: &mut [u8], work: &mut [u8], layout: u32, k: u32) -> Result<u32, Answer> {
-    let (figures, lanes) = judge(arena, work, layout)?;
-    Ok(mend(arena, &figures, &lanes[..figures.lanes as usize], k))
+pub fn cut_open(arena: &mut [u8], work: &mut [u8], layout: u32, table: &[Lane], k: u32) -> Result<u32, Answer> {
+    let mut halves = [Newer::default(); MAX_LANES];
+    let (figures, lanes) = judge(arena, work, layout, table.len(), &mut halves)?;
+    Ok(mend(arena, &figures, lanes, k))
 }

@@ -1,6 +1,6 @@
 //! Replaying a run log.
 use crate::{open, start, step};
-use btt::{Answer, Handle, Opened, Replay, MAX_LOG};
+use btt::{Answer, Handle, Lane, Replay, MAX_LANES, MAX_LOG};
 
 /// The layout of every arena that a log is run on.
 const LAYOUT: u32 = 16;
@@ -30,15 +30,27 @@ fn lent(number: usize, size: u32) -> Vec<u8> {
     (0..size / 4).flat_map(|k| (number as u32 + k).to_le_bytes()).collect()
 }
 
-/// Runs a record.
-fn run(arena: &mut [u8], work: &mut [u8], handle: &mut Handle, number: usize, record: Record) -> Result<(), Answer> {
-    match record {
-        Record::Start { lane, sector } => start(arena, handle, lane, sector),
-        Record::Step { lane } => step(arena, handle, lane, &lent(number, handle.size)),
-        Record::Cut => {
-            let opened = open(arena, work, LAYOUT);
-            *handle = opened.map_or(Handle::default(), |opened| opened.handle);
-            opened.map(|_| ())
+/// The arena and the work buffer of a replay, and the latest handle with its table.
+struct Run<'a> {
+    arena: &'a mut [u8],
+    work: &'a mut [u8],
+    handle: Handle,
+    table: [Lane; MAX_LANES],
+}
+
+impl Run<'_> {
+    fn open(&mut self) -> Result<(), Answer> {
+        let opened = open(self.arena, self.work, LAYOUT, &mut self.table);
+        self.handle = opened.map_or(Handle::default(), |opened| opened.handle);
+        opened.map(|_| ())
+    }
+
+    /// Runs the record of that number.
+    fn run(&mut self, number: usize, record: Record) -> Result<(), Answer> {
+        match record {
+            Record::Start { lane, sector } => start(self.arena, &self.handle, &mut self.table, lane, sector),
+            Record::Step { lane } => step(self.arena, &self.handle, &mut self.table, lane, &lent(number, self.handle.size)),
+            Record::Cut => self.open(),
         }
     }
 }
@@ -46,7 +58,8 @@ fn run(arena: &mut [u8], work: &mut [u8], handle: &mut Handle, number: usize, re
 /// Opens an arena and runs a log on it.
 #[inline(never)]
 pub fn replay(arena: &mut [u8], work: &mut [u8], log: &[u8]) -> Result<Replay, Answer> {
-    let Opened { mut handle, .. } = open(arena, work, LAYOUT)?;
+    let mut run = Run { arena, work, handle: Handle::default(), table: [Lane::default(); MAX_LANES] };
+    run.open()?;
     let mut replay = Replay { answers: Vec::new(), stopped: None };
     if log.len() > MAX_LOG {
         replay.stopped = Some(0);
@@ -58,7 +71,7 @@ pub fn replay(arena: &mut [u8], work: &mut [u8], log: &[u8]) -> Result<Replay, A
             replay.stopped = Some((log.len() - left.len()) as u64);
             break;
         };
-        let answer = run(arena, work, &mut handle, replay.answers.len(), record);
+        let answer = run.run(replay.answers.len(), record);
         replay.answers.push(answer);
         left = rest;
     }

@@ -18,11 +18,11 @@ fn record_allowed(handle: &Handle, record: &Lane) -> bool {
         && record.made < handle.size / 4 + 5
 }
 
-/// Rule 16: the records of the lanes, if the handle is allowed.
-fn records(handle: &Handle, length: usize) -> Result<&[Lane], Answer> {
+/// The records of the lanes, if handle and table are allowed: 16 of the handle, 21, 16 of the records.
+fn records<'t>(handle: &Handle, table: &'t [Lane], length: usize) -> Result<&'t [Lane], Answer> {
     let figures = length_allowed(length) && handle.length == length as u64 && figures_allowed(handle, length);
     require(figures && layout_allowed(handle.layout), Answer::BadHandle)?;
-    let records = &handle.lane[..handle.lanes as usize];
+    let records = table.get(..handle.lanes as usize).ok_or(Answer::ShortTable)?;
     require(records.iter().all(|record| record_allowed(handle, record)), Answer::BadHandle)?;
     Ok(records)
 }
@@ -37,8 +37,8 @@ fn map_word(arena: &[u8], handle: &Handle, sector: u32) -> Result<u32, Answer> {
 
 /// Reads a sector.
 #[inline(never)]
-pub fn read(arena: &[u8], handle: &Handle, sector: u32, buffer: &mut [u8]) -> Result<(), Answer> {
-    records(handle, arena.len())?;
+pub fn read(arena: &[u8], handle: &Handle, table: &[Lane], sector: u32, buffer: &mut [u8]) -> Result<(), Answer> {
+    records(handle, table, arena.len())?;
     require(sector < handle.sectors, Answer::NoSuchSector)?;
     require(buffer.len() == handle.size as usize, Answer::WrongBuffer)?;
     let word = map_word(arena, handle, sector)?;
@@ -51,9 +51,9 @@ pub fn read(arena: &[u8], handle: &Handle, sector: u32, buffer: &mut [u8]) -> Re
     Ok(())
 }
 
-/// The old block of a write that may start: 16, 11, 12, 9, 10, 13, 7, 18.
-fn judge_start(arena: &[u8], handle: &Handle, lane: u32, sector: u32, fits: bool) -> Result<u32, Answer> {
-    let records = records(handle, arena.len())?;
+/// The old block of a write that may start: 16, 21, 16, 11, 12, 9, 10, 13, 7, 18.
+fn judge_start(arena: &[u8], handle: &Handle, table: &[Lane], lane: u32, sector: u32, fits: bool) -> Result<u32, Answer> {
+    let records = records(handle, table, arena.len())?;
     let record = records.get(lane as usize).ok_or(Answer::NoSuchLane)?;
     require(record.busy == 0, Answer::LaneBusy)?;
     require(sector < handle.sectors, Answer::NoSuchSector)?;
@@ -64,22 +64,22 @@ fn judge_start(arena: &[u8], handle: &Handle, lane: u32, sector: u32, fits: bool
 
 /// Starts a write; nothing is stored.
 #[inline(never)]
-pub fn start(arena: &[u8], handle: &mut Handle, lane: u32, sector: u32) -> Result<(), Answer> {
-    let old = judge_start(arena, handle, lane, sector, true)?;
-    let record = &mut handle.lane[lane as usize];
+pub fn start(arena: &[u8], handle: &Handle, table: &mut [Lane], lane: u32, sector: u32) -> Result<(), Answer> {
+    let old = judge_start(arena, handle, table, lane, sector, true)?;
+    let record = &mut table[lane as usize];
     *record = Lane { busy: 1, sector, old, made: 0, ..*record };
     Ok(())
 }
 
 /// A lane's record.
 #[inline(never)]
-pub fn lane(arena: &[u8], handle: &Handle, lane: u32) -> Result<Lane, Answer> {
-    records(handle, arena.len())?.get(lane as usize).copied().ok_or(Answer::NoSuchLane)
+pub fn lane(arena: &[u8], handle: &Handle, table: &[Lane], lane: u32) -> Result<Lane, Answer> {
+    records(handle, table, arena.len())?.get(lane as usize).copied().ok_or(Answer::NoSuchLane)
 }
 
-/// The record of a lane with a write in flight: 16, 11, 14.
-fn in_flight(arena: &[u8], handle: &Handle, lane: u32) -> Result<Lane, Answer> {
-    let record = *records(handle, arena.len())?.get(lane as usize).ok_or(Answer::NoSuchLane)?;
+/// The record of a lane with a write in flight: 16, 21, 16, 11, 14.
+fn in_flight(arena: &[u8], handle: &Handle, table: &[Lane], lane: u32) -> Result<Lane, Answer> {
+    let record = *records(handle, table, arena.len())?.get(lane as usize).ok_or(Answer::NoSuchLane)?;
     require(record.busy == 1, Answer::LaneIdle)?;
     Ok(record)
 }
@@ -99,8 +99,8 @@ fn next(handle: &Handle, lane: u32, record: &Lane) -> (usize, Option<u32>) {
 
 /// The byte offset of a lane's next store.
 #[inline(never)]
-pub fn next_store(arena: &[u8], handle: &Handle, lane: u32) -> Result<u64, Answer> {
-    let record = in_flight(arena, handle, lane)?;
+pub fn next_store(arena: &[u8], handle: &Handle, table: &[Lane], lane: u32) -> Result<u64, Answer> {
+    let record = in_flight(arena, handle, table, lane)?;
     Ok(next(handle, lane, &record).0 as u64)
 }
 
@@ -111,22 +111,22 @@ fn finished(record: &Lane, old: u32) -> Lane {
 
 /// Makes the next store of a lane's write.
 #[inline(never)]
-pub fn step(arena: &mut [u8], handle: &mut Handle, lane: u32, buffer: &[u8]) -> Result<(), Answer> {
-    let record = in_flight(arena, handle, lane)?;
+pub fn step(arena: &mut [u8], handle: &Handle, table: &mut [Lane], lane: u32, buffer: &[u8]) -> Result<(), Answer> {
+    let record = in_flight(arena, handle, table, lane)?;
     require(buffer.len() == handle.size as usize, Answer::WrongBuffer)?;
     let (at, value) = next(handle, lane, &record);
     put_word(arena, at, value.unwrap_or_else(|| word(buffer, 4 * record.made as usize)));
     let made = record.made + 1;
     let done = made == handle.size / 4 + 5;
-    handle.lane[lane as usize] = if done { finished(&record, record.old) } else { Lane { made, ..record } };
+    table[lane as usize] = if done { finished(&record, record.old) } else { Lane { made, ..record } };
     Ok(())
 }
 
 /// Makes a whole write.
 #[inline(never)]
-pub fn write(arena: &mut [u8], handle: &mut Handle, lane: u32, sector: u32, buffer: &[u8]) -> Result<(), Answer> {
-    let old = judge_start(arena, handle, lane, sector, buffer.len() == handle.size as usize)?;
-    let record = handle.lane[lane as usize];
+pub fn write(arena: &mut [u8], handle: &Handle, table: &mut [Lane], lane: u32, sector: u32, buffer: &[u8]) -> Result<(), Answer> {
+    let old = judge_start(arena, handle, table, lane, sector, buffer.len() == handle.size as usize)?;
+    let record = table[lane as usize];
     let half = half_at(handle, lane, record.half);
     arena[block_at(handle, record.block)..][..buffer.len()].copy_from_slice(buffer);
     put_word(arena, half, sector);
@@ -134,6 +134,6 @@ pub fn write(arena: &mut [u8], handle: &mut Handle, lane: u32, sector: u32, buff
     put_word(arena, half + 8, record.block);
     put_word(arena, half + 12, record.sequence);
     put_word(arena, map_at(handle, sector), mapped(record.block));
-    handle.lane[lane as usize] = finished(&record, old);
+    table[lane as usize] = finished(&record, old);
     Ok(())
 }

@@ -1,13 +1,15 @@
 //! Random arenas: made ones, valid ones with their parts anywhere, of every sector size, in both layouts of the flog, and damaged ones.
 use super::chance::Chance;
 use super::{LAYOUTS, NO_SIZES, SIZES};
-use btt::{Geometry, Handle, Identifiers};
+use btt::{Geometry, Handle, Identifiers, MAX_LANES};
 use plain::{figures_of, info_block, info_block_of, made_figures, put_long, put_word, seal, word};
 
-/// Figures of a small arena, with gaps before the parts now and then.
+/// Figures of an arena that is mostly small, with gaps before the parts now and then.
 pub fn figures(chance: &mut Chance) -> Handle {
     let size = if chance.once_in(4) { chance.pick(&SIZES[3..]) } else { chance.pick(&SIZES[..3]) };
-    let lanes = 1 + chance.below(16) as u32;
+    // Many lanes make a long arena, and long blocks a longer one, so they are rare.
+    let most = if chance.once_in(if size < 4096 { 12 } else { 60 }) { MAX_LANES } else { 16 };
+    let lanes = 1 + chance.below(most) as u32;
     let sectors = lanes + chance.below(40) as u32;
     let mut figures = made_figures(Geometry { size, sectors, lanes });
     let mut gaps = 0;
@@ -114,7 +116,8 @@ fn put_info_blocks(chance: &mut Chance, arena: &mut [u8], f: &Handle) {
 
 /// Numbers at which rules turn.
 fn telling(chance: &mut Chance, f: &Handle) -> u32 {
-    let edges = [0, 1, 2, 3, 4, 5, 16, 17, f.size, f.internal, f.sectors, f.blocks, f.lanes, u32::MAX, 1 << 30, 1 << 31, 3 << 30];
+    let edges =
+        [0, 1, 2, 3, 4, 5, 16, 256, 257, f.size, f.internal, f.sectors, f.blocks, f.lanes, u32::MAX, 1 << 30, 1 << 31, 3 << 30];
     let edge = if chance.once_in(10) { chance.pick(&SIZES) } else { chance.pick(&edges) };
     match chance.below(4) {
         0 => chance.word(),

@@ -1,27 +1,46 @@
 //! The library and the plain program side by side: each call is made on both, and everything that it gives or leaves is compared.
 use super::raw::{self, Raw};
-use super::{figures, number};
-use btt::{AlignedBytes, Answer, Arena, ArenaRef, Geometry, Handle, Identifiers, Layout, Opened, Replay, MAX_BLOCKS};
+use super::{figures, number, rubbish};
+use btt::{
+    AlignedBytes, Answer, Arena, ArenaRef, Geometry, Handle, Identifiers, Lane, Layout, Opened, Replay, MAX_BLOCKS, MAX_LANES,
+};
 use std::fmt::Debug;
 use std::rc::Rc;
 
-/// An arena and a handle in the library's hands, the same arena in the plain program's, and its bytes as the test last put them there.
+/// An arena, a handle and a table in the library's hands, the same arena in the plain program's, and its bytes as the test last put them
+/// there.
 #[derive(Clone)]
 pub struct Both {
     pub arena: AlignedBytes,
     pub plain: Vec<u8>,
     pub handle: Handle,
+    pub table: Vec<Lane>,
     put: Rc<[u8]>,
 }
 
 impl Both {
+    /// An arena with a table of rubbish that has more records than any arena needs.
     pub fn new(arena: &[u8]) -> Both {
-        Both { arena: arena.into(), plain: arena.to_vec(), handle: Handle::default(), put: arena.into() }
+        let table = rubbish(MAX_LANES + 3);
+        Both { arena: arena.into(), plain: arena.to_vec(), handle: Handle::default(), table, put: arena.into() }
     }
 
-    /// The same arena with another handle, by which the blocks may be elsewhere.
+    /// The same arena and table with another handle, by which the blocks may be elsewhere.
     pub fn with(&self, handle: Handle) -> Both {
-        Both { handle, ..Both::new(&self.arena) }
+        Both { handle, table: self.table.clone(), ..Both::new(&self.arena) }
+    }
+
+    /// The same arena and handle with another table.
+    pub fn with_table(&self, table: Vec<Lane>) -> Both {
+        Both { table, ..self.clone() }
+    }
+
+    /// The same with just so many records of the table, or with rubbish after those that it has.
+    pub fn with_records(&self, records: usize) -> Both {
+        let mut table = rubbish(records);
+        let kept = records.min(self.table.len());
+        table[..kept].copy_from_slice(&self.table[..kept]);
+        self.with_table(table)
     }
 
     /// Changes both arenas alike.
@@ -66,11 +85,26 @@ impl Both {
         number
     }
 
-    /// Compares what a call gave and left that may change the handle, of which the library's is kept.
+    /// Keeps the table that a call left, once it is seen that both sides left the same and that no record but so many from one on changed.
     #[track_caller]
-    fn same_handle(&mut self, call: &str, found: (Result<(), Answer>, Handle), expected: (Result<(), Answer>, Handle)) -> u32 {
-        assert!(found.1 == expected.1, "{call} leaves the handle");
-        self.handle = found.1;
+    fn keep_table(&mut self, call: &str, found: Vec<Lane>, expected: Vec<Lane>, first: u32, count: u32) {
+        assert!(found == expected, "{call} leaves the table");
+        let own = first as usize..first as usize + count as usize;
+        let mut pairs = found.iter().zip(&self.table).enumerate();
+        assert!(pairs.all(|(i, (now, before))| own.contains(&i) || now == before), "{call} leaves the other records");
+        self.table = found;
+    }
+
+    /// Compares what a call on a lane gave and left that may change its record.
+    #[track_caller]
+    fn same_table(
+        &mut self,
+        call: &str,
+        lane: u32,
+        found: (Result<(), Answer>, Vec<Lane>),
+        expected: (Result<(), Answer>, Vec<Lane>),
+    ) -> u32 {
+        self.keep_table(call, found.1, expected.1, lane, u32::from(found.0.is_ok()));
         let number = self.same(call, found.0, expected.0);
         if number == 0 {
             self.rest_is_kept(call, &self.handle);
@@ -96,12 +130,14 @@ impl Both {
     #[track_caller]
     pub fn open(&mut self, layout: u32, work: &[u8]) -> u32 {
         let (mut work, mut plain_work) = (work.to_vec(), work.to_vec());
+        let (mut table, mut plain_table) = (self.table.clone(), self.table.clone());
         let found = match Layout::try_from(layout) {
-            Ok(layout) => self.lent().open_in(layout, &mut work),
-            Err(_) => raw::open(&mut self.arena, &mut work, layout),
+            Ok(layout) => self.lent().open_in(layout, &mut work, &mut table),
+            Err(_) => raw::open(&mut self.arena, &mut work, layout, &mut table),
         };
-        let expected = plain::open(&mut self.plain, &mut plain_work, layout);
+        let expected = plain::open(&mut self.plain, &mut plain_work, layout, &mut plain_table);
         assert_eq!(work, plain_work, "open leaves the work buffer");
+        self.keep_table("open", table, plain_table, 0, found.map_or(0, |opened| opened.handle.lanes));
         if let Ok(Opened { handle, .. }) = found {
             assert_eq!(handle.layout, layout, "the handle carries the layout");
             self.handle = handle;
@@ -118,11 +154,13 @@ impl Both {
     #[track_caller]
     pub fn cut_open(&mut self, layout: u32, work: &[u8], k: u32) -> u32 {
         let (mut work, mut plain_work) = (work.to_vec(), work.to_vec());
+        let table = self.table.clone();
         let found = match Layout::try_from(layout) {
-            Ok(layout) => self.lent().cut_open_in(layout, &mut work, k),
-            Err(_) => raw::cut_open(&mut self.arena, &mut work, layout, k),
+            Ok(layout) => self.lent().cut_open_in(layout, &mut work, &table, k),
+            Err(_) => raw::cut_open(&mut self.arena, &mut work, layout, &table, k),
         };
-        let expected = plain::cut_open(&mut self.plain, &mut plain_work, layout, k);
+        assert!(table == self.table, "cut_open leaves the table");
+        let expected = plain::cut_open(&mut self.plain, &mut plain_work, layout, &table, k);
         assert_eq!(work, plain_work, "cut_open leaves the work buffer");
         self.opened("cut_open", self.same("cut_open", found, expected))
     }
@@ -130,46 +168,46 @@ impl Both {
     #[track_caller]
     pub fn read(&self, sector: u32, buffer: &mut [u8]) -> u32 {
         let mut plain_buffer = buffer.to_vec();
-        let found = self.view().read(&self.handle, sector, buffer);
-        let expected = plain::read(&self.plain, &self.handle, sector, &mut plain_buffer);
+        let found = self.view().read(&self.handle, &self.table, sector, buffer);
+        let expected = plain::read(&self.plain, &self.handle, &self.table, sector, &mut plain_buffer);
         assert!(buffer[..] == plain_buffer[..], "read leaves the buffer");
         self.same("read", found, expected)
     }
 
     #[track_caller]
     pub fn start(&mut self, lane: u32, sector: u32) -> u32 {
-        let (mut handle, mut plain_handle) = (self.handle, self.handle);
-        let found = self.view().start(&mut handle, lane, sector);
-        let expected = plain::start(&self.plain, &mut plain_handle, lane, sector);
-        self.same_handle("start", (found, handle), (expected, plain_handle))
+        let (mut table, mut plain_table) = (self.table.clone(), self.table.clone());
+        let found = self.view().start(&self.handle, &mut table, lane, sector);
+        let expected = plain::start(&self.plain, &self.handle, &mut plain_table, lane, sector);
+        self.same_table("start", lane, (found, table), (expected, plain_table))
     }
 
     #[track_caller]
     pub fn step(&mut self, lane: u32, buffer: &[u8]) -> u32 {
-        let (mut handle, mut plain_handle) = (self.handle, self.handle);
-        let found = self.lent().step(&mut handle, lane, buffer);
-        let expected = plain::step(&mut self.plain, &mut plain_handle, lane, buffer);
-        self.same_handle("step", (found, handle), (expected, plain_handle))
+        let (handle, mut table, mut plain_table) = (self.handle, self.table.clone(), self.table.clone());
+        let found = self.lent().step(&handle, &mut table, lane, buffer);
+        let expected = plain::step(&mut self.plain, &handle, &mut plain_table, lane, buffer);
+        self.same_table("step", lane, (found, table), (expected, plain_table))
     }
 
     #[track_caller]
     pub fn write(&mut self, lane: u32, sector: u32, buffer: &[u8]) -> u32 {
-        let (mut handle, mut plain_handle) = (self.handle, self.handle);
-        let found = self.lent().write(&mut handle, lane, sector, buffer);
-        let expected = plain::write(&mut self.plain, &mut plain_handle, lane, sector, buffer);
-        self.same_handle("write", (found, handle), (expected, plain_handle))
+        let (handle, mut table, mut plain_table) = (self.handle, self.table.clone(), self.table.clone());
+        let found = self.lent().write(&handle, &mut table, lane, sector, buffer);
+        let expected = plain::write(&mut self.plain, &handle, &mut plain_table, lane, sector, buffer);
+        self.same_table("write", lane, (found, table), (expected, plain_table))
     }
 
     #[track_caller]
     pub fn lane(&self, lane: u32) -> u32 {
-        let found = self.view().lane(&self.handle, lane);
-        self.same("lane", found, plain::lane(&self.plain, &self.handle, lane))
+        let found = self.view().lane(&self.handle, &self.table, lane);
+        self.same("lane", found, plain::lane(&self.plain, &self.handle, &self.table, lane))
     }
 
     #[track_caller]
     pub fn next_store(&self, lane: u32) -> u32 {
-        let found = self.view().next_store(&self.handle, lane);
-        self.same("next_store", found, plain::next_store(&self.plain, &self.handle, lane))
+        let found = self.view().next_store(&self.handle, &self.table, lane);
+        self.same("next_store", found, plain::next_store(&self.plain, &self.handle, &self.table, lane))
     }
 
     /// Replays a log with the wrapper's own buffers, and again as C sees it with buffers of these bytes.

@@ -1,7 +1,7 @@
 //! Openings as C sees them, told any number as the layout; and a replay as C sees it, with everything that it is lent and the three
 //! numbers that it gives.
 use btt::sys::{btt_cut_open, btt_open, btt_replay};
-use btt::{AlignedBytes, Answer, Handle, Opened, Replay};
+use btt::{AlignedBytes, Answer, Handle, Lane, Opened, Replay};
 
 /// The result that a number stands for.
 #[track_caller]
@@ -11,24 +11,26 @@ fn result<T>(number: u32, accepted: T) -> Result<T, Answer> {
     answer.map_or(Ok(accepted), Err)
 }
 
-/// Opens an arena; a refusal must give zeroes for a handle and no count.
+/// Opens an arena; a refusal must give zeroes for a handle and no count, and leave the table.
 #[track_caller]
-pub fn open(arena: &mut AlignedBytes, work: &mut [u8], layout: u32) -> Result<Opened, Answer> {
-    let (mut handle, mut mended) = (Handle::from_bytes(&[0xA5; 512]), 9);
-    let (bytes, length) = (arena.as_mut_ptr(), arena.len());
+pub fn open(arena: &mut AlignedBytes, work: &mut [u8], layout: u32, table: &mut [Lane]) -> Result<Opened, Answer> {
+    let (mut handle, mut mended, before) = (Handle::from_bytes(&[0xA5; 64]), 9, table.to_vec());
+    let (bytes, length, lent, room) = (arena.as_mut_ptr(), arena.len(), work.as_mut_ptr(), work.len());
+    let (places, records) = (table.as_mut_ptr(), table.len());
     // SAFETY: the pointers are of slices with their lengths, a handle and a number, which lie apart; aligned bytes are the arena.
-    let number = unsafe { btt_open(bytes, length, work.as_mut_ptr(), work.len(), layout, &raw mut handle, &raw mut mended) };
+    let number = unsafe { btt_open(bytes, length, lent, room, layout, places, records, &raw mut handle, &raw mut mended) };
     assert!(number == 0 || (handle, mended) == (Handle::default(), 0), "what opening gives with {number}");
+    assert!(number == 0 || table == before, "opening leaves the table with {number}");
     result(number, Opened { handle, mended })
 }
 
 /// An opening that stops after k stores; a refusal must give no count.
 #[track_caller]
-pub fn cut_open(arena: &mut AlignedBytes, work: &mut [u8], layout: u32, k: u32) -> Result<u32, Answer> {
+pub fn cut_open(arena: &mut AlignedBytes, work: &mut [u8], layout: u32, table: &[Lane], k: u32) -> Result<u32, Answer> {
     let mut mended = 9;
-    let (bytes, length) = (arena.as_mut_ptr(), arena.len());
+    let (bytes, length, lent, room) = (arena.as_mut_ptr(), arena.len(), work.as_mut_ptr(), work.len());
     // SAFETY: as in `open`.
-    let number = unsafe { btt_cut_open(bytes, length, work.as_mut_ptr(), work.len(), layout, k, &raw mut mended) };
+    let number = unsafe { btt_cut_open(bytes, length, lent, room, layout, table.as_ptr(), table.len(), k, &raw mut mended) };
     assert!(number == 0 || mended == 0, "what a cut opening gives with {number}");
     result(number, mended)
 }

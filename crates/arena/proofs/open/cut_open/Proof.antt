@@ -1,8 +1,5 @@
 -- `arena::open::cut_open` meets its contract: it is told what an arena by itself is.
-use mathlib.Core.Path.{ap, _∙_}
 use borrow.Author.Needs.{needs}
-use Rattle.layout.specs.declared.Told.{Told}
-use Rattle.machine.specs.calls.Opening.{cutOpenOf}
 use Rattle.arena.proofs.open.cut_open.Statement.{statement}
 use Rattle.arena.proofs.open.cut_open.Tie as tie
 
@@ -20,11 +17,9 @@ same-length-2 c = search needs
 
 returns : tie.Need-returns
 returns c =
-    let at-judge-and-mend = c .before .before .before .before .before in
-    let at-alone = at-judge-and-mend .before .before in
-    let s = at-alone .before .before .before .before in
-    at-judge-and-mend .judge-and-mend .ensures .0
-    ∙ ap (λ (t : Told). cutOpenOf t (s .args .arena .now) (s .args .work .now) (s .args .k)) (at-alone .alone .ensures)
+    let at-mended = c .before .before .before .before .before in
+    let at-alone = at-mended .before .before in
+    rw (at-alone .alone .ensures) at (at-mended .judge-and-mend .ensures .0)
 
 pub cut-open-spec : {M : Type 1} → statement M
 cut-open-spec =

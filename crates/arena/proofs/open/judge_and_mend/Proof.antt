@@ -13,6 +13,9 @@ judge-requires c κs = search needs
 is-done-requires : tie.Need-is-done-requires
 is-done-requires c κs = search needs
 
+number-requires : tie.Need-number-requires
+number-requires c κs = search needs
+
 same-length : tie.Need-same-length
 same-length c = search needs
 
@@ -21,19 +24,18 @@ same-length-2 c = search needs
 
 returns : tie.Need-returns
 returns c =
-    let at-is-done = c .before in
+    let at-is-done = c .before .before in
     let j = at-is-done .before .before .before .before .judge .ensures in
-    let z = sym (at-is-done .is-done .ensures) ∙ not-true _ (c .if1 .taken) in
-    (cut-refused _ _ _ _ _ _ (j .0) (j .1 .1) z, j .1 .0)
+    let z = sym (at-is-done .is-done .ensures) ∙ not-true _ (c .before .if1 .taken) in
+    let n = c .number .ensures in
+    (λ t long. rw n (cut-refused _ _ (record { work = _; table = t }) _ _ _ _ long (j .0) (j .1 .1) z), j .1 .0)
 
 mend-requires : tie.Need-mend-requires
 mend-requires c κs =
     let at-is-done = c .before .before in
-    let at-judge = at-is-done .before .before .before .before in
-    let s = at-judge .before .before .before .before .before in
-    let j = at-judge .judge .ensures in
+    let j = at-is-done .before .before .before .before .judge .ensures in
     let z = sym (at-is-done .is-done .ensures) ∙ not-false _ (c .before .if1 .left) in
-    mendable _ _ (s .args .work .now) _ _ (j .0) z (j .1 .0)
+    mendable _ _ _ _ _ (j .0) z (j .1 .0)
 
 same-length-3 : tie.Need-same-length-3
 same-length-3 c = search needs
@@ -46,12 +48,11 @@ returns-2 c =
     let at-mend = c .before .before in
     let at-if1 = at-mend .before .before in
     let at-is-done = at-if1 .before in
-    let at-judge = at-is-done .before .before .before .before in
-    let s = at-judge .before .before .before .before .before in
-    let j = at-judge .judge .ensures in
+    let j = at-is-done .before .before .before .before .judge .ensures in
+    let m = at-mend .mend .ensures in
     let z = sym (at-is-done .is-done .ensures) ∙ not-false _ (at-if1 .if1 .left) in
-    let f = figures-are _ _ (s .args .work .now) _ _ (j .0) z (j .1 .0) in
-    (cut-done _ _ _ _ _ _ (j .0) (j .1 .1) z _ f _ _ (at-mend .mend .ensures .0) (at-mend .mend .ensures .1), j .1 .0)
+    let f = figures-are _ _ _ _ _ (j .0) z (j .1 .0) in
+    (λ t long. cut-done _ _ (record { work = _; table = t }) _ _ _ _ long (j .0) (j .1 .1) z _ f _ _ (m .0) (m .1), j .1 .0)
 
 pub judge-and-mend-spec : {M : Type 1} → statement M
 judge-and-mend-spec =
@@ -59,6 +60,7 @@ judge-and-mend-spec =
     (tie.spec
     judge-requires
     is-done-requires
+    number-requires
     same-length
     same-length-2
     returns

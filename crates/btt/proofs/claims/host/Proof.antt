@@ -1,7 +1,8 @@
--- `btt::claims::host` ensures the claim about the library's calls, which is proved in `Fits`, `Same` and `Shown`.
+-- `btt::claims::host` ensures the claim about the library's calls, which is proved in `Fits`, `Same`, `Alike` and `Shown`.
 use mathlib.Core.Path.{refl}
-use Rattle.btt.proofs.Fits.{opened-holds, refused-zeroes, opened-layout}
-use Rattle.btt.proofs.Same.{read-same, start-same, step-same, write-same}
+use Rattle.btt.proofs.Fits.{opening-same, opening-past, opened-holds, refused-zeroes, opened-layout}
+use Rattle.btt.proofs.Same.{read-same, start-same, step-same, write-same, start-only, step-only, write-only}
+use Rattle.btt.proofs.Alike.{past-alike}
 use Rattle.btt.proofs.Shown.{
   info-shown,
   info-placed,
@@ -12,8 +13,8 @@ use Rattle.btt.proofs.Shown.{
   lane-left,
   next-left,
   layout-wrong,
+  table-short,
   busy-wrong,
-  record-only,
   lane-answered,
   next-answered,
   lane-shown,
@@ -26,22 +27,28 @@ returns : tie.Need-returns
 returns c = record {
   info-block = info-shown;
   info-place = info-placed;
+  opening = opening-same;
+  open-past = opening-past;
   opened = opened-holds;
   open-refused = refused-zeroes;
   layout = opened-layout;
   read = read-same;
-  start = λ a b h l s t. start-same a b h l t s;
-  step = λ a b h l buffer t. step-same a b h l t buffer;
-  write = λ a b h l s buffer t. write-same a b h l t s buffer;
+  start = λ a b t h l s k. start-same a b t h k l s;
+  step = λ a b t h l buffer k. step-same a b t h k l buffer;
+  write = λ a b t h l s buffer k. write-same a b t h k l s buffer;
   read-refused = read-left;
   start-refused = start-left;
   step-refused = step-left;
   write-refused = write-left;
   lane-refused = lane-left;
   next-refused = next-left;
-  busy = busy-wrong;
   wrong-layout = layout-wrong;
-  kept = record-only;
+  short-table = table-short;
+  busy = busy-wrong;
+  past-unread = past-alike;
+  start-kept = start-only;
+  step-kept = step-only;
+  write-kept = write-only;
   lane-order = λ l. refl;
   next-order = λ l. refl;
   lane-answers = lane-answered;

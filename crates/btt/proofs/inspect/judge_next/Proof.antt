@@ -1,10 +1,9 @@
--- `btt::inspect::judge_next` meets its contract: what the rules of a look at a lane let pass is judged by the lane's record.
+-- `btt::inspect::judge_next` meets its contract: its order begins with that of a look at the lane's record, and then the lane is busy or not.
 use mathlib.Core.Path.{sym, ap, _∙_}
 use mathlib.Core.Bool.{not}
-use borrow.Author.Tests.{eqb-true, lt-leb, not-true, not-false}
-use Rattle.machine.proofs.rules.Rules.{stop, pass, through}
-use Rattle.writing.proofs.Rules.{busy-taken}
-use Rattle.btt.proofs.Rules.{passes, fails, few, lane-found, lane-first, next-walk}
+use borrow.Author.Tests.{not-true, not-false, eqb-true}
+use Rattle.seen.proofs.Laws.{busy-seen}
+use Rattle.btt.proofs.Looks.{lane-first, lane-idle, lane-flies}
 use borrow.Author.Needs.{needs}
 use Rattle.btt.proofs.inspect.judge_next.Statement.{statement}
 use Rattle.btt.proofs.inspect.judge_next.Tie as tie
@@ -16,55 +15,30 @@ is-done-requires : tie.Need-is-done-requires
 is-done-requires c κs = search needs
 
 returns : tie.Need-returns
-returns c = lane-first _ _ _ _ (c .before .before .judge-lane .ensures) (fails (c .before .is-done .ensures) (c .if1 .taken))
-
-cast-i : tie.Need-cast-i
-cast-i c = search needs
-
-mul-r : tie.Need-mul-r
-mul-r c = search needs
-
-element-copy-out-r : tie.Need-element-copy-out-r
-element-copy-out-r c =
-    let i = c .before in
-    let j = i .before .before .judge-lane .ensures in
-    let f = lane-found _ _ _ (sym j ∙ eqb-true _ _ (passes (i .before .is-done .ensures) (i .if1 .left))) in
-    few _ _ _ (f .handle) (f .lane)
+returns c =
+    let d = c .before in
+    λ t e. lane-first _ _ _ _ (d .before .judge-lane .ensures t e) (sym (d .is-done .ensures) ∙ not-true _ (c .if1 .taken))
 
 is-busy-requires : tie.Need-is-busy-requires
 is-busy-requires c κs = search needs
 
 returns-2 : tie.Need-returns-2
 returns-2 c =
-    let i = c .before .before .before .before in
-    let s = i .before .before .before .before in
-    let j = i .before .before .judge-lane .ensures in
-    let f = lane-found _ _ _ (sym j ∙ eqb-true _ _ (passes (i .before .is-done .ensures) (i .if1 .left))) in
-    let r = busy-taken (s .args .t2 .lanes) (s .args .t2 .figures .lanes) (s .args .lane .0) (f .lane) _ _ in
-    let b = ap not (r (c .before .is-busy .ensures) (not-true _ (c .if2 .taken))) in
-    next-walk _ _ _ (pass (ap not (f .handle)) (pass (lt-leb _ _ (f .lane)) (stop b)))
+    let e1 = c .before .before .before in
+    let d = e1 .before in
+    let b = c .before .is-busy .ensures in
+    λ t e. lane-idle _ _ _ (sym (d .before .judge-lane .ensures t e) ∙ eqb-true _ _ (sym (d .is-done .ensures) ∙ not-false _ (e1 .if1 .left)))
+    (ap not (busy-seen _ t _ _ _ e _ _ b (not-true _ (c .if2 .taken))))
 
 returns-3 : tie.Need-returns-3
 returns-3 c =
-    let i = c .before .before .before .before in
-    let s = i .before .before .before .before in
-    let j = i .before .before .judge-lane .ensures in
-    let z = eqb-true _ _ (passes (i .before .is-done .ensures) (i .if1 .left)) in
-    let f = lane-found _ _ _ (sym j ∙ z) in
-    let r = busy-taken (s .args .t2 .lanes) (s .args .t2 .figures .lanes) (s .args .lane .0) (f .lane) _ _ in
-    let b = ap not (r (c .before .is-busy .ensures) (not-false _ (c .if2 .left))) in
-    z ∙ next-walk _ _ _ (pass (ap not (f .handle)) (pass (lt-leb _ _ (f .lane)) (pass b through)))
+    let e1 = c .before .before .before in
+    let d = e1 .before in
+    let b = c .before .is-busy .ensures in
+    let z = eqb-true _ _ (sym (d .is-done .ensures) ∙ not-false _ (e1 .if1 .left)) in
+    λ t e. z ∙ lane-flies _ _ _ (sym (d .before .judge-lane .ensures t e) ∙ z) (ap not (busy-seen _ t _ _ _ e _ _ b (not-false _ (c .if2 .left))))
 
 pub judge-next-spec : {M : Type 1} → statement M
 judge-next-spec =
     tie.close
-    (tie.spec
-    judge-lane-requires
-    is-done-requires
-    returns
-    cast-i
-    mul-r
-    element-copy-out-r
-    is-busy-requires
-    returns-2
-    returns-3)
+    (tie.spec judge-lane-requires is-done-requires returns is-busy-requires returns-2 returns-3)

@@ -2,9 +2,8 @@
 use mathlib.Core.Path.{sym, _∙_}
 use borrow.Author.Needs.{needs}
 use borrow.Author.Tests.{not-true, not-false}
-use Rattle.layout.proofs.Allowed.{allowed-of}
 use Rattle.infoblock.proofs.InfoBlock.{length-in}
-use Rattle.machine.proofs.calls.Rule16.{handle-length, handle-slice, handle-layout, handle-figures, handle-last}
+use Rattle.machine.proofs.calls.Rule16.{handle-length, handle-slice, handle-layout, handle-last}
 use Rattle.machine.proofs.handle.handle_allowed.Statement.{statement}
 use Rattle.machine.proofs.handle.handle_allowed.Tie as tie
 
@@ -36,27 +35,12 @@ figures-allowed-requires c κs =
 
 returns-4 : tie.Need-returns-4
 returns-4 c =
-    let r = c .before .before in
+    let r = c .before in
     let q = r .before .before in
     let p = q .before .before in
-    handle-figures _ _ (sym (p .before .length-allowed .ensures) ∙ not-false (p .before .length-allowed .result) (p .if1 .left)) (q .if2 .left)
-    (sym (r .before .distance-allowed .ensures) ∙ not-false (r .before .distance-allowed .result) (r .if3 .left))
-    (sym (c .before .figures-allowed .ensures) ∙ not-true (c .before .figures-allowed .result) (c .if4 .taken))
-
-lanes-allowed-requires : tie.Need-lanes-allowed-requires
-lanes-allowed-requires c κs =
-    allowed-of _ _ (sym (c .before .figures-allowed .ensures) ∙ not-false (c .before .figures-allowed .result) (c .if4 .left)) .few-lanes
-
-returns-5 : tie.Need-returns-5
-returns-5 c =
-    let t = c .before in
-    let r = t .before .before in
-    let q = r .before .before in
-    let p = q .before .before in
-    c .lanes-allowed .ensures
+    c .figures-allowed .ensures
     ∙ handle-last _ _ (sym (p .before .length-allowed .ensures) ∙ not-false (p .before .length-allowed .result) (p .if1 .left)) (q .if2 .left)
     (sym (r .before .distance-allowed .ensures) ∙ not-false (r .before .distance-allowed .result) (r .if3 .left))
-    (sym (t .before .figures-allowed .ensures) ∙ not-false (t .before .figures-allowed .result) (t .if4 .left))
 
 pub handle-allowed-spec : {M : Type 1} → statement M
 handle-allowed-spec =
@@ -68,6 +52,4 @@ handle-allowed-spec =
     distance-allowed-requires
     returns-3
     figures-allowed-requires
-    returns-4
-    lanes-allowed-requires
-    returns-5)
+    returns-4)

@@ -29,27 +29,24 @@ slice-aggregate-replay-2 c = search needs
 replay-requires : tie.Need-replay-requires
 replay-requires c κs = search needs
 
-number-requires : tie.Need-number-requires
-number-requires c κs = search needs
-
 array-share-prefix-answers : tie.Need-array-share-prefix-answers
 array-share-prefix-answers c =
-    let r = c .before .before .before .before .before .before .replay in
+    let r = c .before .before .before .before .before .replay in
     omega (arith, few _ _ _ _ _ (r .result) (r .ensures))
 
 slice-aggregate-put-replay-2 : tie.Need-slice-aggregate-put-replay-2
 slice-aggregate-put-replay-2 c =
-    let r = c .before .before .before .before .before .before .before .replay in
+    let r = c .before .before .before .before .before .before .replay in
     sym (length-take-le _ _ (omega (arith, few _ _ _ _ _ (r .result) (r .ensures))))
 
 cast-put-replay : tie.Need-cast-put-replay
 cast-put-replay c =
-    let r = c .before .before .before .before .before .before .before .before .replay in
+    let r = c .before .before .before .before .before .before .before .replay in
     omega (arith, early _ _ _ _ _ (r .result) (r .ensures))
 
 put-replay-requires-2 : tie.Need-put-replay-requires-2
 put-replay-requires-2 c κs =
-    let r = c .before .before .before .before .before .before .before .before .replay in
+    let r = c .before .before .before .before .before .before .before .replay in
     few-answers _ _ _ _ _ (r .result) (r .ensures)
 
 same-length : tie.Need-same-length
@@ -57,13 +54,12 @@ same-length c = search needs
 
 returns-2 : tie.Need-returns-2
 returns-2 c =
-    let n = c .before .before .before .before in
-    let r = n .before .before .before .before .before in
+    let r = c .before .before .before .before .before .before .before .before in
     let e = r .before .before .before .before in
     let s = e .before .before .before .args in
     let t = transcribed _ _ _ _ _ (r .replay .result) (r .replay .ensures) (e .if1 .left) in
     let p = c .put-replay2 .ensures in
-    with-count (t (n .number .result) (n .number .ensures) (s .out .now) (c .put-replay2 .last .0) _ (p .0) (p .1))
+    with-count (t (s .out .now) (c .put-replay2 .last .0) _ (p .0) (p .1))
 
 pub transcript-spec : {M : Type 1} → statement M
 transcript-spec =
@@ -75,7 +71,6 @@ transcript-spec =
     slice-aggregate-replay
     slice-aggregate-replay-2
     replay-requires
-    number-requires
     array-share-prefix-answers
     slice-aggregate-put-replay-2
     cast-put-replay

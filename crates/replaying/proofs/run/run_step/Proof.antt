@@ -17,27 +17,28 @@ cast-size : tie.Need-cast-size
 cast-size c = search needs
 
 array-share-prefix-buffer : tie.Need-array-share-prefix-buffer
-array-share-prefix-buffer c = omega (arith, c .before .if1 .taken, words-length _ _ (c .before .before .before .before .fill-words .ensures))
+array-share-prefix-buffer c = search needs
 
-slice-aggregate-step : tie.Need-slice-aggregate-step
-slice-aggregate-step c =
+slice-aggregate-step-seen : tie.Need-slice-aggregate-step-seen
+slice-aggregate-step-seen c =
     let l = words-length _ _ (c .before .before .before .before .before .fill-words .ensures) in
     sym (length-take-le _ _ (omega (arith, c .before .before .if1 .taken, l)))
 
-step-requires : tie.Need-step-requires
-step-requires c κs = search needs
+step-seen-requires : tie.Need-step-seen-requires
+step-seen-requires c κs = search needs
 
 same-length : tie.Need-same-length
 same-length c = search needs
 
 returns : tie.Need-returns
-returns c = rw (← (c .before .before .before .before .before .before .before .before .fill-words .ensures)) (c .before .before .step .ensures)
+returns c =
+    λ t e. rw (← (c .before .before .before .before .before .before .before .before .fill-words .ensures)) (c .before .before .step-seen .ensures t e)
 
-slice-aggregate-step-2 : tie.Need-slice-aggregate-step-2
-slice-aggregate-step-2 c = sym (words-length _ _ (c .before .before .before .before .before .fill-words .ensures))
+slice-aggregate-step-seen-2 : tie.Need-slice-aggregate-step-seen-2
+slice-aggregate-step-seen-2 c = search needs
 
-step-requires-2 : tie.Need-step-requires-2
-step-requires-2 c κs = search needs
+step-seen-requires-2 : tie.Need-step-seen-requires-2
+step-seen-requires-2 c κs = search needs
 
 same-length-2 : tie.Need-same-length-2
 same-length-2 c = search needs
@@ -45,7 +46,7 @@ same-length-2 c = search needs
 returns-2 : tie.Need-returns-2
 returns-2 c =
     let f = c .before .before .before .before .before .before .before .before .fill-words .ensures in
-    rw (← f, words-all _ _ _ f (c .before .before .before .before .before .if1 .left)) (c .before .before .step2 .ensures)
+    λ t e. rw (← f, words-all _ _ _ f (c .before .before .before .before .before .if1 .left)) (c .before .before .step-seen2 .ensures t e)
 
 pub run-step-spec : {M : Type 1} → statement M
 run-step-spec =
@@ -55,11 +56,11 @@ run-step-spec =
     fill-words-requires
     cast-size
     array-share-prefix-buffer
-    slice-aggregate-step
-    step-requires
+    slice-aggregate-step-seen
+    step-seen-requires
     same-length
     returns
-    slice-aggregate-step-2
-    step-requires-2
+    slice-aggregate-step-seen-2
+    step-seen-requires-2
     same-length-2
     returns-2)

@@ -11,7 +11,7 @@ btt: sectors that a power cut cannot tear, in a file that holds one arena of a b
                                which is the most, and says what it made
   btt make FILE --sectors E    makes an arena of just E sectors
       --size S                 the bytes of a sector: 512, 520, 528, 4096 or 4104; 512 if not given
-      --lanes N                how many writes can be in flight at once, 1 to 16 and at most the sectors; 4 if not given
+      --lanes N                how many writes can be in flight at once, 1 to 256 and at most the sectors; 4 if not given
       --id HEX, --parent HEX   identifiers of 32 hexadecimal digits; zeroes if not given
       --force                  replaces a file that is there, if it is a regular one: no symbolic link, no device
                                (without it the file system must have hard links)

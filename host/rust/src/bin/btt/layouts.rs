@@ -1,11 +1,11 @@
 //! The layout in which an arena is opened, and the other one.
 use crate::lent;
 use crate::problem::Problem;
-use btt::{AlignedBytes, Answer, Layout, MAX_BLOCKS};
+use btt::{AlignedBytes, Answer, Lane, Layout, MAX_BLOCKS, MAX_LANES};
 
 /// Judges an arena in a layout; nothing is stored.
 fn judged(bytes: &mut AlignedBytes, layout: Layout) -> Result<(), Answer> {
-    lent(bytes).cut_open_in(layout, &mut vec![0; MAX_BLOCKS], 0).map(|_| ())
+    lent(bytes).cut_open_in(layout, &mut vec![0; MAX_BLOCKS], &[Lane::default(); MAX_LANES], 0).map(|_| ())
 }
 
 /// What is to be told of an arena that does not open in a layout: why, and whether it opens in the other.

@@ -3,7 +3,7 @@ use crate::arguments::{Make, Room};
 use crate::file::trouble;
 use crate::problem::Problem;
 use crate::{lent, output};
-use btt::{internal_size, AlignedBytes, Answer, Geometry, Identifiers, MAX_ARENA};
+use btt::{internal_size, AlignedBytes, Answer, Geometry, Identifiers, MAX_ARENA, MAX_LANES};
 use std::ffi::OsStr;
 use std::fs::{self, File, OpenOptions};
 use std::io::{self, ErrorKind, Write};
@@ -27,10 +27,12 @@ pub fn make(name: &OsStr, asked: &Make) -> Result<(), Problem> {
     output::print(said.as_bytes()).map_err(|problem| Problem::File(format!("{shown} is made, but {problem}")))
 }
 
-/// What is to be told of figures of which the library makes no arena: a size that no sector has is named.
+/// What is to be told of figures of which the library makes no arena: a size that no sector has, or a number of lanes that no arena has,
+/// is named.
 fn refused(geometry: Geometry, answer: Answer) -> Problem {
     match (answer, internal_size(geometry.size)) {
         (Answer::ForbiddenFigure, None) => Problem::Size(geometry.size),
+        (Answer::ForbiddenFigure, _) if !(1..=MAX_LANES as u32).contains(&geometry.lanes) => Problem::Lanes(geometry.lanes),
         _ => Problem::Refused(answer),
     }
 }

@@ -1,5 +1,5 @@
 //! What can go wrong, and the exit status that tells it.
-use btt::{Answer, Layout, SIZES};
+use btt::{Answer, Layout, MAX_LANES, SIZES};
 use std::fmt;
 use std::process::ExitCode;
 
@@ -12,6 +12,8 @@ pub enum Problem {
     OtherLayout(Answer, Layout),
     /// The library refused to make an arena, for it has no sectors of so many bytes.
     Size(u32),
+    /// The library refused to make an arena, for none has so many lanes.
+    Lanes(u32),
     /// No arena is made for so many bytes: the library would refuse every length with 1.
     Room(String),
     /// The command line is not understood.
@@ -23,7 +25,7 @@ pub enum Problem {
 impl Problem {
     pub fn exit_code(&self) -> ExitCode {
         ExitCode::from(match self {
-            Problem::Refused(_) | Problem::OtherLayout(..) | Problem::Size(_) | Problem::Room(_) => 1,
+            Problem::Refused(_) | Problem::OtherLayout(..) | Problem::Size(_) | Problem::Lanes(_) | Problem::Room(_) => 1,
             Problem::Usage(_) => 2,
             Problem::File(_) => 3,
         })
@@ -46,6 +48,9 @@ impl fmt::Display for Problem {
             Problem::Size(size) => {
                 let sizes = SIZES.map(|pair| pair.0.to_string()).join(", ");
                 write!(f, "refused {}: there are no sectors of {size} bytes, but of {sizes}", Answer::ForbiddenFigure.number())
+            }
+            Problem::Lanes(lanes) => {
+                write!(f, "refused {}: an arena has 1 to {MAX_LANES} lanes, not {lanes}", Answer::ForbiddenFigure.number())
             }
             Problem::Room(message) => write!(f, "refused {}: {message}", Answer::WrongLength.number()),
             Problem::Usage(message) => write!(f, "{message}\nbtt --help tells how it is used"),

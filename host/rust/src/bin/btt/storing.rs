@@ -1,7 +1,7 @@
 //! A write to the file of an arena, store by store.
 use crate::lent;
 use crate::problem::Problem;
-use btt::{AlignedBytes, Answer, Layout, OpenArena, MAX_BLOCKS};
+use btt::{AlignedBytes, Answer, Handle, Lane, Layout, OpenArena, MAX_BLOCKS, MAX_LANES};
 use std::fs::File;
 use std::io;
 use std::os::unix::fs::FileExt;
@@ -37,8 +37,10 @@ pub fn write(
     sector: u32,
     buffer: &[u8],
 ) -> Result<(), Problem> {
-    OpenArena::open_in(layout, lent(&mut bytes.clone()))?.write_sector(sector, buffer)?;
-    mend(bytes, medium, layout)?;
+    let mut copy = bytes.clone();
+    let mut tried = OpenArena::open_in(layout, lent(&mut copy))?;
+    tried.write_sector(sector, buffer)?;
+    mend(bytes, medium, layout, tried.handle())?;
     let mut opened = OpenArena::open_in(layout, lent(bytes))?;
     let last = opened.handle().steps();
     // Being killed keeps the stores that were made, in their order, so the order is enough there. When the power goes, a disk may
@@ -55,18 +57,17 @@ pub fn write(
     })
 }
 
-/// Makes the stores by which opening mends the arena, one after another, by openings that are cut after 1, 2 and so on of them. They
-/// are on the disk before a write takes one of the blocks that they give away.
-fn mend(bytes: &mut AlignedBytes, medium: &mut impl Medium, layout: Layout) -> Result<(), Problem> {
-    let found = bytes.clone();
-    let pending = cut_open(&mut found.clone(), layout, 0)?;
-    for k in 1..=pending {
-        let mut next = found.clone();
-        cut_open(&mut next, layout, k)?;
-        for (offset, word) in changed(bytes, &next) {
-            medium.store(offset, word).map_err(failed)?;
+/// Makes the stores by which opening mends the arena, one after another, by openings that are cut after the first of those left. All of
+/// them go to the map, and they are on the disk before a write takes one of the blocks that they give away.
+fn mend(bytes: &mut AlignedBytes, medium: &mut impl Medium, layout: Layout, handle: &Handle) -> Result<(), Problem> {
+    let map = handle.map as usize..handle.flog as usize;
+    let pending = cut_open(bytes, layout, 0)?;
+    for _ in 0..pending {
+        let before = bytes[map.clone()].to_vec();
+        cut_open(bytes, layout, 1)?;
+        for (offset, word) in changed(&before, &bytes[map.clone()]) {
+            medium.store(handle.map + offset, word).map_err(failed)?;
         }
-        *bytes = next;
     }
     if pending > 0 {
         medium.sync().map_err(failed)?;
@@ -75,7 +76,7 @@ fn mend(bytes: &mut AlignedBytes, medium: &mut impl Medium, layout: Layout) -> R
 }
 
 fn cut_open(bytes: &mut AlignedBytes, layout: Layout, k: u32) -> Result<u32, Answer> {
-    lent(bytes).cut_open_in(layout, &mut vec![0; MAX_BLOCKS], k)
+    lent(bytes).cut_open_in(layout, &mut vec![0; MAX_BLOCKS], &[Lane::default(); MAX_LANES], k)
 }
 
 /// The words that differ, with their offsets.

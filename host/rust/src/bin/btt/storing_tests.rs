@@ -32,7 +32,10 @@ fn cut(bytes: &AlignedBytes, left: usize) -> Cut {
 
 /// A fresh arena of 60 sectors of so many bytes.
 fn made(size: usize) -> AlignedBytes {
-    let geometry = Geometry { size: size as u32, sectors: 60, lanes: 4 };
+    made_of(Geometry { size: size as u32, sectors: 60, lanes: 4 })
+}
+
+fn made_of(geometry: Geometry) -> AlignedBytes {
     let mut bytes = AlignedBytes::zeroed(geometry.made_length().unwrap() as usize);
     lent(&mut bytes).make(geometry, Identifiers::ZEROES).unwrap();
     bytes
@@ -48,13 +51,18 @@ fn sector(bytes: &AlignedBytes, layout: Layout, sector: u32) -> Vec<u8> {
 
 /// An arena with lanes 1 and 3 pending, to sectors 5 and 6.
 fn pending(layout: Layout, size: usize) -> AlignedBytes {
-    let mut bytes = made(size);
+    pending_on(made(size), layout, [(1, 5), (3, 6)].into_iter())
+}
+
+/// The arena with lanes pending to sectors, each of which is then full of its number.
+fn pending_on(mut bytes: AlignedBytes, layout: Layout, writes: impl Iterator<Item = (u32, u32)>) -> AlignedBytes {
     let mut arena = lent(&mut bytes);
-    let mut handle = arena.open_in(layout, &mut [0; 64]).unwrap().handle;
-    for (lane, number) in [(1, 5), (3, 6)] {
-        arena.start(&mut handle, lane, number).unwrap();
+    let mut table = [Lane::default(); MAX_LANES];
+    let handle = arena.open_in(layout, &mut vec![0; MAX_BLOCKS], &mut table).unwrap().handle;
+    for (lane, number) in writes {
+        arena.start(&handle, &mut table, lane, number).unwrap();
         for _ in 1..handle.steps() {
-            arena.step(&mut handle, lane, &vec![number as u8; size]).unwrap();
+            arena.step(&handle, &mut table, lane, &vec![number as u8; handle.sector_size()]).unwrap();
         }
     }
     bytes
@@ -111,6 +119,21 @@ fn mending_is_done_in_order_and_first() {
         assert_eq!(sector(&medium.bytes, layout, 5), [5; 512]);
         assert_eq!(sector(&medium.bytes, layout, 6), [6; 512]);
         assert_eq!(sector(&medium.bytes, layout, 7), [9; 512]);
+    }
+}
+
+#[test]
+fn every_one_of_256_lanes_is_mended_in_order() {
+    let fresh = made_of(Geometry { size: 512, sectors: 256, lanes: 256 });
+    let found = pending_on(fresh, Layout::Near, (0..256).map(|lane| (lane, 255 - lane)));
+    let mut medium = cut(&found, 256 + 133);
+    write(&mut found.clone(), &mut medium, Layout::Near, 7, &[9; 512]).unwrap();
+    let stores: Vec<_> = (0..256).map(|lane| Some(266_240 + 4 * (255 - lane))).chain([None]).collect();
+    assert_eq!(medium.told[..257], stores);
+    // Lane 0 has block 255, which the sector of that number gave away.
+    assert_eq!(medium.told[257], Some(4096 + 255 * 512));
+    for (number, byte) in [(0, 0), (7, 9), (8, 8), (255, 255)] {
+        assert_eq!(sector(&medium.bytes, Layout::Near, number), [byte; 512]);
     }
 }
 

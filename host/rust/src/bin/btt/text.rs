@@ -1,6 +1,6 @@
 //! What is told of an arena.
 use crate::lent;
-use btt::{AlignedBytes, Answer, Arena, Handle, Layout, Opened, MAX_BLOCKS};
+use btt::{AlignedBytes, Answer, Handle, Layout, OpenArena};
 use std::fmt::Write;
 
 /// A text, and whether the arena was opened.
@@ -13,20 +13,16 @@ macro_rules! line {
     }};
 }
 
-/// Opens an arena in memory.
-fn opened(arena: &mut Arena, layout: Layout) -> Result<Opened, Answer> {
-    arena.open_in(layout, &mut vec![0; MAX_BLOCKS])
-}
-
 /// The report on an arena, as the program report of the repository gives it, for arenas of every length and of both layouts.
 pub fn report(bytes: &mut AlignedBytes, layout: Layout) -> Told {
     let mut text = String::new();
-    let outcome = opened(&mut lent(bytes), layout).map(|Opened { handle, mended }| {
+    let outcome = OpenArena::open_in(layout, lent(bytes)).map(|opened| {
+        let handle = opened.handle();
         line!(text, "sector bytes {}", handle.size);
         line!(text, "sectors {}", handle.sectors);
         line!(text, "lanes {}", handle.lanes);
-        line!(text, "mended {mended}");
-        for (lane, record) in handle.records().iter().enumerate() {
+        line!(text, "mended {}", opened.mended());
+        for (lane, record) in opened.records().iter().enumerate() {
             line!(text, "lane {lane} free {} next {}", record.block, record.sequence);
         }
         line!(text, "opened");
@@ -54,17 +50,16 @@ fn refused(text: &mut String, outcome: Result<(), Answer>) {
 pub fn dump(bytes: &mut AlignedBytes, layout: Layout) -> Told {
     let mut text = String::new();
     line!(text, "length {}", bytes.len());
-    let mut arena = lent(bytes);
+    let arena = lent(bytes);
     match arena.info_block() {
         Some(block) => line!(text, "info block at {}", block.as_ptr().addr() - arena.bytes().as_ptr().addr()),
         None => line!(text, "info block none"),
     }
-    let outcome = opened(&mut arena, layout).and_then(|Opened { handle, mended }| {
-        figures(&mut text, &handle);
-        line!(text, "mended {mended}");
-        lanes(&mut text, &arena, &handle)?;
-        sectors(&mut text, &arena, &handle);
-        Ok(())
+    let outcome = OpenArena::open_in(layout, arena).map(|opened| {
+        figures(&mut text, opened.handle());
+        line!(text, "mended {}", opened.mended());
+        lanes(&mut text, &opened);
+        sectors(&mut text, &opened);
     });
     refused(&mut text, outcome);
     (text, outcome)
@@ -82,17 +77,15 @@ fn figures(text: &mut String, handle: &Handle) {
     line!(text, "copy at {}", handle.copy);
 }
 
-fn lanes(text: &mut String, arena: &Arena, handle: &Handle) -> Result<(), Answer> {
-    for lane in 0..handle.lanes {
-        let record = arena.lane(handle, lane)?;
+fn lanes(text: &mut String, opened: &OpenArena) {
+    for (lane, record) in opened.records().iter().enumerate() {
         line!(text, "lane {lane} idle free {} half {} next {}", record.block, record.half, record.sequence);
     }
-    Ok(())
 }
 
-fn sectors(text: &mut String, arena: &Arena, handle: &Handle) {
-    let map = &arena.bytes()[handle.map as usize..];
-    for (sector, word) in (0..handle.sectors).zip(map.as_chunks().0) {
+fn sectors(text: &mut String, opened: &OpenArena) {
+    let map = &opened.arena().bytes()[opened.handle().map as usize..];
+    for (sector, word) in (0..opened.sectors()).zip(map.as_chunks().0) {
         let (state, block) = state(sector, u32::from_le_bytes(*word));
         line!(text, "sector {sector} {state} block {block}");
     }

@@ -1,0 +1,5 @@
+pub mod Hand
+pub mod Records
+pub mod Covered
+pub mod Contracts
+pub mod Laws
