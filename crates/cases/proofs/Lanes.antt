@@ -3,7 +3,7 @@
 use mathlib.Core.Path.{_≡_, refl, sym, ap, _∙_, subst}
 use mathlib.Core.Logic.{inl}
 use mathlib.Core.List.{List, [], _∷_, _++_, append-nil, List·Memᴰ, List·Memᴰ·head, List·Memᴰ·eq-of-singleton}
-use mathlib.Core.Bool.{true, cond}
+use mathlib.Core.Bool.{true, false, cond}
 use Prim.Native.Nat.{ℕ, zero, suc, _+_, _≤_, _<_}
 use native.Mathlib.Nat.{add-zero}
 use native.Mathlib.Omega.{arith}
@@ -13,6 +13,7 @@ use lib.ListN.{length, replicate, length-replicate}
 use borrow.Author.Tests.{lt-ltb, ne-eqb}
 use Rattle.words.specs.Word.{word}
 use Rattle.words.specs.Bytes.{Small, byteWord}
+use Rattle.format.specs.Tests.{every}
 use Rattle.format.specs.MapWord.{blockOf}
 use Rattle.format.specs.Sequence.{successor}
 use Rattle.format.proofs.Below.{below-replicate}
@@ -21,14 +22,16 @@ use Rattle.layout.specs.Place.{layoutOf}
 use Rattle.layout.specs.Sizes.{internalOf}
 use Rattle.layout.specs.Told.{aloneNear}
 use Rattle.machine.specs.Rules.{answer}
-use Rattle.machine.specs.state.Handle.{laneAt, laidOut}
-use Rattle.machine.specs.state.Lane.{noLane, startedLane, writeStores}
+use Rattle.machine.specs.state.Handle.{Handle, with, bareOf, laneAt, laidOut, handleAllowed, tableShort, recordsAllowed}
+use Rattle.machine.specs.declared.lane.Lane.{Lane}
+use Rattle.machine.specs.state.Lane.{noLane, laneAllowed, startedLane, writeStores}
 use Rattle.machine.specs.state.Flog.{mapWord, mapBlock}
 use Rattle.machine.specs.calls.Making.{makeNumber, makeOf}
 use Rattle.machine.specs.calls.Opening.{Room, extentOf, figuresIn, layoutIn, foundLane, openOf}
 use Rattle.machine.specs.calls.Reading.{Read, readOf}
-use Rattle.machine.specs.calls.Writing.{Plan, planOf, storeAt, startOf}
-use Rattle.machine.specs.calls.History.{Call, start, step, State, run, openedFrom, SmallCall, SmallCalls}
+use Rattle.machine.specs.calls.Judging.{callNumber}
+use Rattle.machine.specs.calls.Writing.{Plan, planOf, storeAt, startOf, stepOf, writeOf}
+use Rattle.machine.specs.calls.History.{Call, read, start, step, write, State, run, openedFrom, SmallCall, SmallCalls}
 use Rattle.machine.specs.models.Book.{Entry, anyEntry, laneFlies, bookNumber, tallied, noted, lastWords}
 use Rattle.machine.specs.words.Records.{Idle}
 use Rattle.machine.specs.words.Valid.{RoomFor}
@@ -39,7 +42,7 @@ use Rattle.machine.proofs.stores.Members.{each-none, each-more, each-replicate,
 use Rattle.machine.proofs.calls.Accepted.{start-found}
 use Rattle.machine.proofs.making.Making.{made-small, map-words, making-claim}
 use Rattle.machine.proofs.opening.Opens.{open-number, open-zero, opened-distance, opened-figures, opened-lane, opened-idle}
-use Rattle.machine.proofs.invariant.Held.{held-open}
+use Rattle.machine.proofs.invariant.Held.{held-open, held-allowed}
 use Rattle.machine.proofs.invariant.Histories.{HeldIn}
 use Rattle.machine.proofs.row.Zeroes.{has-zeroes}
 use Rattle.machine.proofs.book.Entries.{entryOf}
@@ -59,6 +62,8 @@ use Rattle.cases.specs.Lanes.{
   startedIn,
   case256-made,
   case256-opened,
+  case256-judged,
+  case256-calls,
   case256-stores,
   case256-cut,
   case256-cuts,
@@ -273,6 +278,52 @@ short-number =
 opened-due : AllDue case256-opened
 opened-due = (given .opens, (short-number, tt))
 
+-- 21 comes after 16 of the handle, and 16 of the records after it
+short-call : (a : List ℕ) (h : Handle) (c : Call) → handleAllowed (bareOf h) (length a) ≡ true → tableShort h ≡ true → callNumber a h c ≡ 21
+unfolding callNumber answer
+short-call a h (read s buffer) e f = rw (e, f)
+short-call a h (start l s) e f = rw (e, f)
+short-call a h (step l buffer) e f = rw (e, f)
+short-call a h (write l s buffer) e f = rw (e, f)
+
+broken-call : (a : List ℕ) (h : Handle) (c : Call) → handleAllowed (bareOf h) (length a) ≡ true → tableShort h ≡ false → recordsAllowed h ≡ false
+    → callNumber a h c ≡ 16
+unfolding callNumber answer
+broken-call a h (read s buffer) e f r = rw (e, f, r)
+broken-call a h (start l s) e f r = rw (e, f, r)
+broken-call a h (step l buffer) e f r = rw (e, f, r)
+broken-call a h (write l s buffer) e f r = rw (e, f, r)
+
+four : (table : List Lane) (n : ℕ) → ((c : Call) → callNumber (lanesState .arena) (with (bareOf (lanesState .handle)) table) c ≡ n)
+    → AllDue (case256-judged table n)
+unfolding readOf startOf stepOf writeOf
+four table n e = (e (read 7 lanesBytes), (e (start 255 7), (e (step 255 lanesBytes), (e (write 255 7 lanesBytes), tt))))
+
+opened-as : (lanesState .handle .distance ≡ 16) × (lanesState .handle .figures ≡ freshFigures 512 256 256)
+opened-as =
+    (opened-distance aloneNear lanesFound lanesRoom (given .opens), opened-figures aloneNear lanesFound lanesRoom (given .opens) ∙ made .figures)
+
+allowed : handleAllowed (bareOf (lanesState .handle)) (length (lanesState .arena)) ≡ true
+allowed = held-allowed aloneNear _ _ (held-open aloneNear lanesFound lanesRoom (given .small) (given .opens))
+
+too-few : tableShort (with (bareOf (lanesState .handle)) (replicate 255 noLane)) ≡ true
+unfolding tableShort freshFigures
+too-few = rw (opened-as .1)
+
+enough : tableShort (with (bareOf (lanesState .handle)) (replicate 256 noLane)) ≡ false
+unfolding tableShort freshFigures
+enough = rw (opened-as .1)
+
+broken : recordsAllowed (with (bareOf (lanesState .handle)) (replicate 256 noLane)) ≡ false
+unfolding recordsAllowed laneAllowed every layoutOf freshFigures internalOf
+broken = rw (opened-as .0, opened-as .1)
+
+calls-due : AllDue case256-calls
+calls-due =
+    append (case256-judged (replicate 255 noLane) 21) (case256-judged (replicate 256 noLane) 16)
+    (four (replicate 255 noLane) 21 (λ c. short-call _ _ c allowed too-few))
+    (four (replicate 256 noLane) 16 (λ c. broken-call _ _ c allowed enough broken))
+
 -- its stores, by what the record of lane 255 remembers
 planned : AllDue (case256-stores plan)
 unfolding layoutOf freshFigures internalOf storeAt word
@@ -283,10 +334,10 @@ stores-due =
     subst (λ (p : Plan). AllDue (case256-stores p)) (sym (started lanesFound lanesRoom lanesBytes given size-bytes small-bytes)) planned
 
 -- the rows of a cut
-rows : (k mended free half sequence last : ℕ) (read : List ℕ) → byteWord read 508 ≡ last
-    → Found lanesFound lanesRoom lanesBytes given size-bytes small-bytes k mended free half sequence read
+rows : (k mended free half sequence last : ℕ) (bytes : List ℕ) → byteWord bytes 508 ≡ last
+    → Found lanesFound lanesRoom lanesBytes given size-bytes small-bytes k mended free half sequence bytes
     → AllDue (case256-cut k mended free half sequence last)
-rows k mended free half sequence last read e f =
+rows k mended free half sequence last bytes e f =
     let r = f .reads (replicate 512 9) (length-replicate {A = ℕ} 512 9) in
     let answered = ap (λ (x : Read). x .number) r in
     let last-word = ap (λ (x : Read). byteWord (x .buffer) 508) r ∙ e in
@@ -307,6 +358,7 @@ made-due = (refl, (refl, (refl, (refl, (refl, (refl, (refl, (refl, (refl, (refl,
 
 pub case-256 : AllDue case256
 case-256 =
-    append case256-made (case256-opened ++ (case256-stores (startedIn lanesState) ++ case256-cuts)) made-due
-    (append case256-opened (case256-stores (startedIn lanesState) ++ case256-cuts) opened-due
-    (append (case256-stores (startedIn lanesState)) case256-cuts stores-due cuts-due))
+    append case256-made (case256-opened ++ (case256-calls ++ (case256-stores (startedIn lanesState) ++ case256-cuts))) made-due
+    (append case256-opened (case256-calls ++ (case256-stores (startedIn lanesState) ++ case256-cuts)) opened-due
+    (append case256-calls (case256-stores (startedIn lanesState) ++ case256-cuts) calls-due
+    (append (case256-stores (startedIn lanesState)) case256-cuts stores-due cuts-due)))

@@ -10,9 +10,10 @@ use Rattle.layout.specs.Told.{aloneNear}
 use Rattle.machine.specs.calls.Making.{Wanted, makeNumber, makeOf}
 use Rattle.machine.specs.calls.Opening.{Room, openOf}
 use Rattle.machine.specs.calls.Reading.{readOf}
-use Rattle.machine.specs.calls.Writing.{Plan, planOf, storeAt, startOf}
+use Rattle.machine.specs.calls.Writing.{Plan, planOf, storeAt, startOf, stepOf, writeOf}
 use Rattle.machine.specs.calls.History.{Call, start, step, State, run, openedFrom}
-use Rattle.machine.specs.state.Handle.{laneAt}
+use Rattle.machine.specs.declared.lane.Lane.{Lane}
+use Rattle.machine.specs.state.Handle.{with, bareOf, laneAt}
 use Rattle.machine.specs.state.Lane.{noLane, writeStores}
 use Rattle.machine.specs.state.Stores.{Store}
 use Rattle.cases.specs.Worked.{Worked, _is_}
@@ -59,6 +60,18 @@ lanesState = openedFrom aloneNear lanesFound lanesRoom
 abbrev pub lanesBytes : List ℕ
 lanesBytes = replicate 512 5
 
+-- every call with the opened handle and a table
+abbrev pub case256-judged : List Lane → ℕ → List Worked
+case256-judged table n =
+    let a = lanesState .arena in
+    let h = with (bareOf (lanesState .handle)) table in
+    ((readOf a h 7 lanesBytes) .number is n) ∷ ((startOf a h 255 7) .number is n) ∷ ((stepOf a h 255 lanesBytes) .number is n)
+    ∷ ((writeOf a h 255 7 lanesBytes) .number is n) ∷ []
+
+-- records of zeroes are out of range: 255 of them are 21, and 256 are 16
+abbrev pub case256-calls : List Worked
+case256-calls = case256-judged (replicate 255 noLane) 21 ++ case256-judged (replicate 256 noLane) 16
+
 -- what lane 255's record remembers once its write is started
 abbrev pub startedIn : State → Plan
 startedIn x = planOf 255 (laneAt ((startOf (x .arena) (x .handle) 255 7) .handle .table) 255)
@@ -92,4 +105,4 @@ abbrev pub case256-cuts : List Worked
 case256-cuts = case256-cut 131 0 511 1 2 0 ++ (case256-cut 132 1 7 0 3 0x05050505 ++ case256-cut 133 0 7 0 3 0x05050505)
 
 abbrev pub case256 : List Worked
-case256 = case256-made ++ (case256-opened ++ (case256-stores (startedIn lanesState) ++ case256-cuts))
+case256 = case256-made ++ (case256-opened ++ (case256-calls ++ (case256-stores (startedIn lanesState) ++ case256-cuts)))

@@ -39,7 +39,7 @@ module _ (a first second : List ℕ) where
       let zero = k .number lent room in
       let f = opened-figures aloneNear found lent zero ∙ m .figures in
       rw (le-ltb maxInput (length found) few, zero, k .mended lent)
-      (report-text ((openOf aloneNear found lent) .handle)
+      (report-text .fresh ((openOf aloneNear found lent) .handle)
       (ap (λ (g : Figures). g .size) f ∙ unfold freshFigures in refl)
       (ap (λ (g : Figures). g .sectors) f ∙ unfold freshFigures in refl)
       (ap (λ (g : Figures). g .lanes) f ∙ unfold freshFigures in refl)

@@ -1,11 +1,12 @@
--- Texts said a second time, character by character: what a number's digits stand for, a replay's lines, and document 01's report.
+-- Texts said a second time, character by character: what a number's digits stand for, a replay's lines, a report's, and document 01's report.
 use mathlib.Core.Path.{_≡_}
 use mathlib.Core.Logic.{_≢_}
 use mathlib.Core.Bool.{Bool, true, false}
 use mathlib.Core.List.{List, [], _∷_, _++_}
-use Prim.Native.Nat.{ℕ, _+_, _-_, _*_, _≤_, _<_}
+use Prim.Native.Nat.{ℕ, zero, suc, _+_, _-_, _*_, _≤_, _<_}
 use lib.ListN.{length, getD}
 use Rattle.machine.specs.state.Handle.{Handle, laneAt}
+use Rattle.machine.specs.declared.lane.Lane.{Lane}
 use Rattle.text.specs.Text.{decimal, openedText}
 use Rattle.text.specs.Replay.{replayText}
 
@@ -64,9 +65,23 @@ freshReport =
     ++ ((108 ∷ 97 ∷ 110 ∷ 101 ∷ 32 ∷ 51 ∷ 32 ∷ 102 ∷ 114 ∷ 101 ∷ 101 ∷ 32 ∷ 54 ∷ 51 ∷ 32 ∷ 110 ∷ 101 ∷ 120 ∷ 116 ∷ 32 ∷ 50 ∷ 10 ∷ [])
     ++ (111 ∷ 112 ∷ 101 ∷ 110 ∷ 101 ∷ 100 ∷ 10 ∷ []))))))))
 
--- it is written of figures and lanes as such an arena has them
-abbrev pub ReportTextClaim : Type 0
-ReportTextClaim =
-    (h : Handle) → h .figures .size ≡ 512 → h .figures .sectors ≡ 60 → h .figures .lanes ≡ 4
-    → ((l : ℕ) → l < 4 → ((laneAt (h .table) l) .block .0 ≡ 60 + l) × ((laneAt (h .table) l) .sequence .0 ≡ 2))
-    → openedText h 0 ≡ freshReport
+-- the lines of n lanes from lane l on, the first one first: "lane L free B next Q"
+unfoldable pub laneLines : List Lane → ℕ → ℕ → List ℕ
+laneLines table l zero = []
+laneLines table l (suc n) =
+    (108 ∷ 97 ∷ 110 ∷ 101 ∷ 32 ∷ []) ++ (decimal l ++ ((32 ∷ 102 ∷ 114 ∷ 101 ∷ 101 ∷ 32 ∷ []) ++ (decimal ((laneAt table l) .block .0)
+    ++ ((32 ∷ 110 ∷ 101 ∷ 120 ∷ 116 ∷ 32 ∷ []) ++ (decimal ((laneAt table l) .sequence .0) ++ (10 ∷ laneLines table (l + 1) n))))))
+
+pub record ReportTextClaim : Type 0 where
+  -- of any handle: "sector bytes S", "sectors E", "lanes N", "mended M", a line for each of the N lanes, "opened"
+  pub lines : (h : Handle) (mended : ℕ)
+      → openedText h mended
+      ≡ (115 ∷ 101 ∷ 99 ∷ 116 ∷ 111 ∷ 114 ∷ 32 ∷ 98 ∷ 121 ∷ 116 ∷ 101 ∷ 115 ∷ 32 ∷ []) ++ (decimal (h .figures .size)
+      ++ ((10 ∷ 115 ∷ 101 ∷ 99 ∷ 116 ∷ 111 ∷ 114 ∷ 115 ∷ 32 ∷ []) ++ (decimal (h .figures .sectors)
+      ++ ((10 ∷ 108 ∷ 97 ∷ 110 ∷ 101 ∷ 115 ∷ 32 ∷ []) ++ (decimal (h .figures .lanes)
+      ++ ((10 ∷ 109 ∷ 101 ∷ 110 ∷ 100 ∷ 101 ∷ 100 ∷ 32 ∷ []) ++ (decimal mended
+      ++ (10 ∷ (laneLines (h .table) 0 (h .figures .lanes) ++ (111 ∷ 112 ∷ 101 ∷ 110 ∷ 101 ∷ 100 ∷ 10 ∷ []))))))))))
+  -- of figures and lanes as document 01's fresh arena has them, its report
+  pub fresh : (h : Handle) → h .figures .size ≡ 512 → h .figures .sectors ≡ 60 → h .figures .lanes ≡ 4
+      → ((l : ℕ) → l < 4 → ((laneAt (h .table) l) .block .0 ≡ 60 + l) × ((laneAt (h .table) l) .sequence .0 ≡ 2))
+      → openedText h 0 ≡ freshReport

@@ -11,7 +11,7 @@ pub fn replay_texts()
     ensures replay_texts { λ _. ⌜ TextClaim ⌝ }
 {}
 
-// The report on document 01's fresh arena.
+// A report, line by line, and that on document 01's fresh arena.
 pub fn report_text()
     ensures report_text { λ _. ⌜ ReportTextClaim ⌝ }
 {}
