@@ -12,7 +12,7 @@ use machine::handle::{Handle, no_handle};
 use mend::mend;
 
 // What opening gives beside the table: the answer's number, the number of pending lanes as found, and the handle (all zeroes on a refusal).
-#[derive(Drop)]
+#[derive(Clone, Copy)]
 pub struct Opened {
     pub number: u32,
     pub mended: u32,
@@ -20,14 +20,14 @@ pub struct Opened {
 }
 
 // What a cut opening gives: no handle.
-#[derive(Drop)]
+#[derive(Clone, Copy)]
 pub struct CutOpened {
     pub number: u32,
     pub mended: u32,
 }
 
 // A cut opening with the figures that it judged.
-#[derive(Drop)]
+#[derive(Clone, Copy)]
 struct Mending {
     opened: CutOpened,
     figures: Figures,

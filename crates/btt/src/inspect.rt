@@ -15,7 +15,7 @@ use seen::{Seen, judge_table};
 use stores::store_place;
 
 // A part of an arena, in bytes.
-#[derive(Drop)]
+#[derive(Clone, Copy)]
 pub struct Span {
     pub offset: u64,
     pub length: u64,

@@ -1,5 +1,7 @@
 // The library for hosts: each call of an arena as a function that C can call. A handle is 64 bytes that the host keeps, and the lanes' records
 // are in a table that it lends; a call decodes the one, sees what it needs of the other, and stores the one record that it changed.
+#![tactic(auto)]
+
 ghost use Rattle.std.specs.Prelude.{◌≡◌};
 ghost use Rattle.making.specs.Gave.{wanted_of};
 ghost use Rattle.machine.specs.calls.Making.{make_of};

@@ -1,4 +1,6 @@
 // The worked figures of document 01: those to be proved as one claim, and makings and checksums that are run.
+#![tactic(auto)]
+
 ghost use Rattle.std.specs.Prelude.{◌≡◌, length};
 ghost use Rattle.cases.specs.Table.{table};
 ghost use Rattle.cases.specs.Worked.{AllDue};

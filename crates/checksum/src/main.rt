@@ -1,5 +1,7 @@
 // Writes the Fletcher64 checksum of a run of words from standard input. Of 4,096 bytes, as long as an info block, it also writes the
 // block's checksum, whose field counts as zero, and whether the block is sound.
+#![tactic(auto)]
+
 ghost use Rattle.std.specs.Prelude.{◌≡◌, length};
 
 use fletcher::{block_checksum, fletcher64_of};

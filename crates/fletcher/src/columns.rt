@@ -8,7 +8,7 @@ use crate::Sums;
 use words::word_at;
 
 // Of each column, modulo 2^32, the sum of its words, and the sum of what that was before each turn.
-#[derive(Drop)]
+#[derive(Clone, Copy)]
 pub struct Columns {
     pub lows: [u32; 8],
     pub befores: [u32; 8],

@@ -1,4 +1,6 @@
 // Fletcher64 over 32-bit words, and the checksum of an info block.
+#![tactic(auto)]
+
 pub mod claims;
 mod columns;
 
@@ -11,7 +13,7 @@ use crate::columns::Columns;
 use words::{join, word_at};
 
 // The two running sums, each modulo 2^32.
-#[derive(Drop)]
+#[derive(Clone, Copy)]
 pub struct Sums {
     pub low: u32,
     pub high: u32,

@@ -3,16 +3,16 @@ ghost use Rattle.std.specs.Prelude.{◌≡◌};
 
 // A sector as a host numbers it.
 #[repr(C)]
-#[derive(Drop)]
+#[derive(Clone, Copy)]
 pub struct SectorNo(pub u32);
 
 // A block of the data part.
 #[repr(C)]
-#[derive(Drop)]
+#[derive(Clone, Copy)]
 pub struct BlockNo(pub u32);
 
 // A lane.
-#[derive(Drop)]
+#[derive(Clone, Copy)]
 pub struct LaneNo(pub u32);
 
 impl SectorNo {

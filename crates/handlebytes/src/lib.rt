@@ -1,4 +1,6 @@
 // The 64 bytes of a handle, and the 28 of a lane's record, as a host holds them.
+#![tactic(auto)]
+
 ghost use Rattle.std.specs.Prelude.{◌≡◌, ◌≤◌, length};
 ghost use Rattle.words.specs.Word.{put_words};
 ghost use Rattle.handlebytes.specs.Bytes.{decode_handle, start_words, figure_words, handle_words, record_words};

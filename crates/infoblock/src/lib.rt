@@ -1,4 +1,6 @@
 // The info block: sound or not, which of two counts, its figures, and a made one. No other crate reads its words.
+#![tactic(auto)]
+
 pub mod claims;
 
 ghost use Rattle.std.specs.Prelude.{◌≡◌, ◌+◌, ◌*◌, ◌/◌, ◌%◌, ◌≤◌, ◌<◌, length};
@@ -42,7 +44,7 @@ pub fn is_sound(b: &[u8]) -> bool
 }
 
 // Which of two blocks counts.
-#[derive(Drop)]
+#[derive(Clone, Copy)]
 pub enum Counts {
     Main,
     Copy,

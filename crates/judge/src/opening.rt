@@ -22,7 +22,7 @@ use machine::handle::no_figures;
 use once::{blocks_once, clear};
 
 // What judging finds: an answer, and the figures where it is Done.
-#[derive(Drop)]
+#[derive(Clone, Copy)]
 pub struct Judged {
     pub answer: Answer,
     pub figures: Figures,

@@ -1,4 +1,6 @@
 // What an arena's map and flog say, by its figures.
+#![tactic(auto)]
+
 ghost use Rattle.std.specs.Prelude.{◌≡◌, ℕ, ◌<◌, length};
 ghost use Rattle.layout.specs.Place.{layout_of};
 ghost use Rattle.machine.specs.state.Flog.{map_word, map_block, newer_half, free_of, spare_of, pending, newer_flog, padding_set};

@@ -1,4 +1,6 @@
 // The figures of an arena: which are allowed, which making works out, and where each part's words are.
+#![tactic(auto)]
+
 pub mod claims;
 
 ghost use Rattle.std.specs.Prelude.{◌≡◌, true, ℕ, ◌+◌, ◌*◌, ◌/◌, ◌≤◌, ◌<◌, length};
@@ -26,7 +28,7 @@ pub const FAR: u32 = 32;
 const HALF_WORDS: usize = 4;
 
 // The figures of an arena, as its info block has them; starts are in bytes.
-#[derive(Drop)]
+#[derive(Clone, Copy)]
 pub struct Figures {
     // S: bytes of a sector.
     pub size: u32,
@@ -46,7 +48,7 @@ pub struct Figures {
 }
 
 // What an opening is told: the next arena that the info block must name, and the bytes between the starts of a lane's two halves.
-#[derive(Drop)]
+#[derive(Clone, Copy)]
 pub struct Told {
     pub next: u64,
     pub distance: u32,

@@ -3,7 +3,7 @@ ghost use Rattle.std.specs.Prelude.{◌≡◌, Bool, eqb};
 ghost use Rattle.machine.specs.state.Answer.{number_of};
 
 // Each with its number in document 01's table of refusals, 18 of a sloppy arena, 20 of the run log and 21 of a short table.
-#[derive(Drop)]
+#[derive(Clone, Copy)]
 pub enum Answer {
     // 0: accepted.
     Done,

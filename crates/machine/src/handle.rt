@@ -7,7 +7,7 @@ ghost use Rattle.machine.specs.state.Handle.{no_figures, zero_handle, handle_all
 use super::lane::Lane;
 use layout::{Figures, distance_allowed, figures_allowed, length_allowed};
 
-#[derive(Drop)]
+#[derive(Clone, Copy)]
 pub struct Handle {
     pub length: u64,
     // The layout: bytes from a lane's first half to its second.

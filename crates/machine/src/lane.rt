@@ -7,7 +7,7 @@ use format::numbers::{BlockNo, SectorNo};
 use format::sequence::Sequence;
 
 #[repr(C)]
-#[derive(Drop)]
+#[derive(Clone, Copy)]
 pub struct Lane {
     // 1 where a write is in flight, else 0; any other number is out of range.
     pub busy: u32,

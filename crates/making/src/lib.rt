@@ -1,4 +1,6 @@
 // Making an arena.
+#![tactic(auto)]
+
 ghost use Rattle.std.specs.Prelude.{◌≡◌, ◌+◌, ◌*◌, ◌≤◌, ◌<◌, length};
 ghost use Rattle.words.specs.Word.{put_words};
 ghost use Rattle.layout.specs.Place.{layout_of};

@@ -1,4 +1,6 @@
 // The stores of an opening: a pending lane's sector is mapped to the lane's new block.
+#![tactic(auto)]
+
 ghost use Rattle.std.specs.Prelude.{◌≡◌, cond, ◌+◌, ◌<◌, ltb, take};
 ghost use Rattle.layout.specs.Figures.{max_lanes};
 ghost use Rattle.layout.specs.Place.{layout_of};

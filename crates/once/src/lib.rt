@@ -1,4 +1,6 @@
 // Counts in the work buffer, by which each block is seen to be there once.
+#![tactic(auto)]
+
 ghost use Rattle.std.specs.Prelude.{◌≡◌, ℕ, ◌≤◌, ◌<◌, length};
 ghost use Rattle.layout.specs.Place.{layout_of};
 ghost use Rattle.machine.specs.state.Flog.{map_block};

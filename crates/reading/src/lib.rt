@@ -1,4 +1,6 @@
 // Reading a sector.
+#![tactic(auto)]
+
 ghost use Rattle.std.specs.Prelude.{◌≡◌, ◌+◌, ◌*◌, ◌≤◌, length};
 ghost use Rattle.words.specs.Word.{put_words, words_from};
 ghost use Rattle.format.specs.MapWord.{flags_of, reading_of};

@@ -1,4 +1,6 @@
 // Replays the log steps.log on the arena arena.img in memory, and writes what each record answered.
+#![tactic(auto)]
+
 ghost use Rattle.std.specs.Prelude.{◌≡◌, length};
 ghost use Rattle.io.specs.Counts.{IsPrefixLen};
 

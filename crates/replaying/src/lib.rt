@@ -1,5 +1,7 @@
 // Replays a run log on a lent arena: the first opening, then one call of the library for each record that the log's reader gives. The
 // table of lane records that it lends to each is its own.
+#![tactic(auto)]
+
 ghost use Rattle.std.specs.Prelude.{◌≡◌, true};
 ghost use Rattle.replaying.specs.Replay.{replay_of};
 ghost use Rattle.replaying.specs.Gave.{point_at, left_at, ended, gave, into};
@@ -18,7 +20,7 @@ pub mod claims;
 mod run;
 
 // What a replay gives beside the lent bytes.
-#[derive(Drop)]
+#[derive(Clone, Copy)]
 pub struct Replayed {
     // The number of the first opening's answer.
     pub first: u32,

@@ -27,7 +27,7 @@ const MAX_WORDS: u32 = 1026;
 
 // Where a replay stands between two records, beside the lent bytes and the table: the handle, the offset and the index of the next record,
 // and whether the log was refused there.
-#[derive(Drop)]
+#[derive(Clone, Copy)]
 pub struct Stand {
     pub handle: Handle,
     pub at: usize,
@@ -36,7 +36,7 @@ pub struct Stand {
 }
 
 // What one record did: its number, the handle, a record for the table with its place, and the handle whose lanes are then read off the flog.
-#[derive(Drop)]
+#[derive(Clone, Copy)]
 pub struct Did {
     pub number: u32,
     pub handle: Handle,
@@ -46,7 +46,7 @@ pub struct Did {
 }
 
 // The same with where the replay stands after it.
-#[derive(Drop)]
+#[derive(Clone, Copy)]
 pub struct Went {
     pub stand: Stand,
     pub at: usize,

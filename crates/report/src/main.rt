@@ -1,4 +1,6 @@
 // Reports on an arena: reads it from standard input, opens it in memory and writes what it found.
+#![tactic(auto)]
+
 ghost use Rattle.std.specs.Prelude.{◌≡◌, length};
 
 mod claims;

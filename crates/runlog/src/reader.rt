@@ -5,7 +5,7 @@ ghost use Rattle.runlog.specs.Record.{taken_at};
 
 use crate::record::{Taken, taken_at};
 
-#[derive(Drop)]
+#[derive(Clone, Copy)]
 pub struct LogReader<'a> {
     pub log: &'a [u8],
     pub at: usize,

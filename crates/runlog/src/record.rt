@@ -10,7 +10,7 @@ use words::wide;
 pub const MAX_LOG: usize = 8192;
 
 // What a record says, or that none stands there.
-#[derive(Drop)]
+#[derive(Clone, Copy)]
 pub enum Record {
     // Kind 1: a write is started on a lane, to a sector.
     Start(LaneNo, SectorNo),
@@ -37,7 +37,7 @@ impl Record {
 }
 
 // A record, and the offset after it.
-#[derive(Drop)]
+#[derive(Clone, Copy)]
 pub struct Taken {
     pub found: Record,
     pub after: usize,

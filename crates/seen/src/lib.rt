@@ -1,4 +1,6 @@
 // What a call sees of the table of lane records that is lent with a handle, and the one record that it gives back to it, both by value.
+#![tactic(auto)]
+
 ghost use Rattle.std.specs.Prelude.{◌≡◌, not, ◌||◌, List, [], ℕ, ◌≤◌, length};
 ghost use Rattle.machine.specs.Rules.{answer};
 ghost use Rattle.machine.specs.state.Answer.{number_of};
@@ -12,7 +14,7 @@ use machine::handle::{Handle, handle_allowed, lane_allowed};
 use machine::lane::Lane;
 
 // What a call sees: the table's length, whether the lanes' records are in range, whether one has the sector in flight, and the lane's own.
-#[derive(Drop)]
+#[derive(Clone, Copy)]
 pub struct Seen {
     pub length: usize,
     pub sound: bool,
@@ -21,7 +23,7 @@ pub struct Seen {
 }
 
 // What a call gives: its number, and a record with its place in the table; past the table's end there is nothing to store.
-#[derive(Drop)]
+#[derive(Clone, Copy)]
 pub struct Moved {
     pub number: u32,
     pub at: usize,

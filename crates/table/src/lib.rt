@@ -1,5 +1,7 @@
 // The table of lane records that a caller lends. Only the functions here and the calls that are given one touch it, and each is thin: it
 // reads records, calls a covered function by value, and stores one record.
+#![tactic(auto)]
+
 ghost use Rattle.std.specs.Prelude.{◌≡◌, ◌≤◌, length, set};
 ghost use Rattle.machine.specs.state.Handle.{lane_at};
 ghost use Rattle.lanes.specs.Filled.{LanesFit, filled_by};

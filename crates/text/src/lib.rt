@@ -1,4 +1,6 @@
 // The text of a report, put into a lent buffer piece by piece. Each piece gives the place after it.
+#![tactic(auto)]
+
 ghost use Rattle.std.specs.Prelude.{◌≡◌, ◌++◌, ◌+◌, ◌≤◌, length, drop};
 ghost use Rattle.lanes.specs.Filled.{LanesFit};
 ghost use Rattle.text.specs.Text.{digits, decimal, newline, refused_text, head_text, lane_text, lanes_text, opened_text};

@@ -1,4 +1,6 @@
 // Starting a write, one step of it, and a whole write, by what was seen of the table: each gives the one record that it changes.
+#![tactic(auto)]
+
 ghost use Rattle.std.specs.Prelude.{◌≡◌, ℕ, ◌+◌, ◌/◌, ◌≤◌, ◌<◌, length};
 ghost use Rattle.layout.specs.Sizes.{max_size};
 ghost use Rattle.layout.specs.Place.{layout_of};

@@ -55,12 +55,12 @@ module _ (τ : Told) where
     then_none [] l n = refl
     then_none (e ∷ b) l n = rw (ne_eqb e.lane l (n e (Memᴰ.head refl))) (then_none b l (λ d m. n d (Memᴰ.tail m)))
 
-    then_at : (b : List Entry) → Differ b → (e : Entry) → Memᴰ e b
+    then_at : (e : Entry) (b : List Entry) → Differ b → Memᴰ e b
         → lane_then τ a b e.lane ≡ cond (leb (write_stores (layout_in τ a)) (e.tally + 1)) (moved_on τ a e) (found_lane (layout_in τ a) a e.lane)
     unfolding lane_then
-    then_at b f e (Memᴰ.head {xs = c} p) =
+    then_at e b f (Memᴰ.head {xs = c} p) =
         rw (← p, eq-eqb e.lane e.lane refl, then_none c e.lane (λ d m z. (f.0 d m).0 (ap (λ (y : Entry). y.lane) (sym p) ∙ sym z)))
-    then_at b f e (Memᴰ.tail {x = d} {xs = c} m) = rw (ne_eqb d.lane e.lane (f.0 e m).0) (then_at c f.1 e m)
+    then_at e b f (Memᴰ.tail {x = d} {xs = c} m) = rw (ne_eqb d.lane e.lane (f.0 e m).0) (then_at e c f.1 m)
 
     -- a lane without a kept write
     then_other : (b : List Entry) (l : ℕ) → ((e : Entry) → Memᴰ e b → e.lane ≡ l → e.tally + 1 < write_stores (layout_in τ a))
@@ -112,7 +112,7 @@ module _ (τ : Told) where
         go : LaneOf τ a b l r → idled (settled_lane (layout_in τ a) r) ≡ lane_then τ a b l
         go (untouched x n) = unfold settled_lane in
             (rw (idle_ended (layout_in τ a) A l r i x.idle) (sym x.is ∙ sym (then_none b l n)))
-        go (written e m p is) = rw (is, ← p) (settled-with e ∙ sym (then_at b f e m))
+        go (written e m p is) = rw (is, ← p) (settled-with e ∙ sym (then_at e b f m))
 
   -- ---- the book with those writes finished
 
@@ -162,7 +162,7 @@ module _ (τ : Told) where
           (kept_more τ a bytes x done_tally (last_words τ a b) b done_ok (λ e m. grows e)
           (λ e m k u v. by_bool (lacks_map_word τ a e) _
           (λ t. let p : k ≡ e.tally = omega (arith, done_lacks e t) in
-          Memᴰ.cast (rw p (last_is e e.tally (eqb-true (e.tally + 1) (write_stores (layout_in τ a)) t))) (last_in τ a b e m t))
+          Memᴰ.cast (rw p (last_is e e.tally (eqb-true (e.tally + 1) (write_stores (layout_in τ a)) t))) (last_in τ a e b m t))
           (λ t. absurd (omega (arith, done_else e t)))) last_known
           ∙ put_all-append (layout_in τ a) (kept τ a bytes b) (last_words τ a b) a)
         where
@@ -261,7 +261,7 @@ module _ (τ : Told) where
           figures = figures;
           idle = opened_idle τ y.arena work number;
           past = λ l u. opening_past τ y.arena work l (rw same_figures u);
-          moved = λ e m v. let u = stored_all e v in idle_is _ _ _ _ (lanes e.lane (z.ok.each e m).lane_in ∙ then_at a b z.ok.differ e m
+          moved = λ e m v. let u = stored_all e v in idle_is _ _ _ _ (lanes e.lane (z.ok.each e m).lane_in ∙ then_at a e b z.ok.differ m
               ∙ rw (le-leb (write_stores (layout_in τ a)) (e.tally + 1) u));
           unmoved = λ l u n.
               idle_is _ _ _ _ (lanes l (lanes-in τ.distance (figures_in a) l u) ∙ then_other a b l (λ e m p. not_stored e (n e m p)));

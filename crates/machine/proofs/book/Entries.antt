@@ -44,14 +44,14 @@ far_is e d e' d' p q f = rw (← p, ← q) f
 
 -- ---- members of a list that differs
 
-pub differ_pair : (b : List Entry) → Differ b → (e d : Entry) → Memᴰ e b → Memᴰ d b → (e ≡ d) ⊎ Far e d
-differ_pair b f e d (Memᴰ.head p) (Memᴰ.head q) = inl (p ∙ sym q)
-differ_pair b f e d (Memᴰ.head {x = y} p) (Memᴰ.tail n) = inr (far_is y d e d (sym p) refl (f.0 d n))
-differ_pair b f e d (Memᴰ.tail m) (Memᴰ.head {x = y} q) = inr (far_sym d e (far_is y e d e (sym q) refl (f.0 e m)))
-differ_pair b f e d (Memᴰ.tail {xs = r} m) (Memᴰ.tail n) = differ_pair r f.1 e d m n
+pub differ_pair : (e d : Entry) (b : List Entry) → Differ b → Memᴰ e b → Memᴰ d b → (e ≡ d) ⊎ Far e d
+differ_pair e d b f (Memᴰ.head p) (Memᴰ.head q) = inl (p ∙ sym q)
+differ_pair e d b f (Memᴰ.head {x = y} p) (Memᴰ.tail n) = inr (far_is y d e d (sym p) refl (f.0 d n))
+differ_pair e d b f (Memᴰ.tail m) (Memᴰ.head {x = y} q) = inr (far_sym d e (far_is y e d e (sym q) refl (f.0 e m)))
+differ_pair e d b f (Memᴰ.tail {xs = r} m) (Memᴰ.tail n) = differ_pair e d r f.1 m n
 
 pub same_entry : (b : List Entry) → Differ b → (e d : Entry) → Memᴰ e b → Memᴰ d b → e.lane ≡ d.lane → e ≡ d
-same_entry b f e d m n z = ⊎_elim (λ p. p) (λ p. absurd (p.0 z)) (differ_pair b f e d m n)
+same_entry b f e d m n z = ⊎_elim (λ p. p) (λ p. absurd (p.0 z)) (differ_pair e d b f m n)
 
 pub differ_left : (b c : List Entry) → Differ (b ++ c) → Differ b
 differ_left [] c f = tt
@@ -61,17 +61,17 @@ pub differ_right : (b c : List Entry) → Differ (b ++ c) → Differ c
 differ_right [] c f = f
 differ_right (e ∷ b) c f = differ_right b c f.1
 
-pub differ_across : (b c : List Entry) → Differ (b ++ c) → (e d : Entry) → Memᴰ e b → Memᴰ d c → Far e d
-differ_across b c f e d (Memᴰ.head {x = y} {xs = r} p) n = far_is y d e d (sym p) refl (f.0 d (Memᴰ.append_right r n))
-differ_across b c f e d (Memᴰ.tail {xs = r} m) n = differ_across r c f.1 e d m n
+pub differ_across : (e d : Entry) (b c : List Entry) → Differ (b ++ c) → Memᴰ e b → Memᴰ d c → Far e d
+differ_across e d b c f (Memᴰ.head {x = y} {xs = r} p) n = far_is y d e d (sym p) refl (f.0 d (Memᴰ.append_right r n))
+differ_across e d b c f (Memᴰ.tail {xs = r} m) n = differ_across e d r c f.1 m n
 
 -- ---- tests
 
 module _ (t : Entry → Bool) where
-  pub any_of : (b : List Entry) (e : Entry) → Memᴰ e b → t e ≡ true → any_entry t b ≡ true
+  pub any_of : (e : Entry) (b : List Entry) → Memᴰ e b → t e ≡ true → any_entry t b ≡ true
   unfolding any_entry
-  any_of b e (Memᴰ.head p) z = rw (ap t (sym p) ∙ z)
-  any_of b e (Memᴰ.tail {x = y} {xs = r} m) z = rw (any_of r e m z) (or-true (t y))
+  any_of e b (Memᴰ.head p) z = rw (ap t (sym p) ∙ z)
+  any_of e b (Memᴰ.tail {x = y} {xs = r} m) z = rw (any_of e r m z) (or-true (t y))
 
   pub any_none : (b : List Entry) → ((e : Entry) → Memᴰ e b → t e ≡ false) → any_entry t b ≡ false
   unfolding any_entry
@@ -95,15 +95,15 @@ module _ (t : Entry → Bool) where
       go false p y ih = let r = ih y in (r.0, Memᴰ.tail r.1, r.2)
 
   pub any_false : (b : List Entry) → any_entry t b ≡ false → (e : Entry) → Memᴰ e b → t e ≡ false
-  any_false b z e m = by_bool (t e) (t e ≡ false) (λ y. true_false (sym (any_of b e m y) ∙ z)) (λ y. y)
+  any_false b z e m = by_bool (t e) (t e ≡ false) (λ y. true_false (sym (any_of e b m y) ∙ z)) (λ y. y)
 
   -- a test of the write on one lane
-  pub lane_test : (b : List Entry) → Differ b → (e : Entry) → Memᴰ e b → any_entry (λ d. eqb d.lane e.lane && t d) b ≡ t e
+  pub lane_test : (e : Entry) (b : List Entry) → Differ b → Memᴰ e b → any_entry (λ d. eqb d.lane e.lane && t d) b ≡ t e
   unfolding any_entry
-  lane_test b f e (Memᴰ.head {xs = r} p) =
+  lane_test e b f (Memᴰ.head {xs = r} p) =
       rw (← p, eq-eqb e.lane e.lane refl, lane-none r e.lane (λ d m z. (f.0 d m).0 (ap (λ (y : Entry). y.lane) (sym p) ∙ sym z)))
       (or-false (t e))
-  lane_test b f e (Memᴰ.tail {x = d} {xs = r} m) = rw (ne_eqb d.lane e.lane (f.0 e m).0) (lane_test r f.1 e m)
+  lane_test e b f (Memᴰ.tail {x = d} {xs = r} m) = rw (ne_eqb d.lane e.lane (f.0 e m).0) (lane_test e r f.1 m)
 
 -- ---- other tallies
 

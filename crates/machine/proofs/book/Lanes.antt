@@ -91,7 +91,7 @@ module _ (τ : Told) where
 
       pub busy_is : (l : ℕ) (r : Lane) → LaneOf b l r → is_busy r ≡ lane_flies τ a b l
       busy_is l r (untouched x n) = x.idle ∙ sym (lane-none (in_flight_yet τ a) b l n)
-      busy_is l r (written e m p is) = ap is_busy is ∙ lane-busy e ∙ sym (rw (← p) (lane_test (in_flight_yet τ a) b f e m))
+      busy_is l r (written e m p is) = ap is_busy is ∙ lane-busy e ∙ sym (rw (← p) (lane_test (in_flight_yet τ a) e b f m))
 
       -- which sectors are in flight
       pub flight_is : (n : ℕ) (lanes : List Lane) → ((l : ℕ) → l < n → LaneOf b l (lane_at lanes l))

@@ -78,10 +78,10 @@ module _ (τ : Told) where
     abbrev pub last_of : Entry → Store
     last_of e = record { place = in_map e.sector; value = mapped_to (free_of (layout_in τ a) a e.lane) }
 
-    pub last_in : (b : List Entry) (e : Entry) → Memᴰ e b → lacks_map_word τ a e ≡ true → Memᴰ (last_of e) (last_words τ a b)
+    pub last_in : (e : Entry) (b : List Entry) → Memᴰ e b → lacks_map_word τ a e ≡ true → Memᴰ (last_of e) (last_words τ a b)
     unfolding last_words
-    last_in b e (Memᴰ.head {x = d} p) t = Memᴰ.append_left {s = cond (lacks_map_word τ a d) (last_of d ∷ []) []} _ (rw (← p, t) (Memᴰ.head refl))
-    last_in b e (Memᴰ.tail {x = d} {xs = c} m) t = Memᴰ.append_right (cond (lacks_map_word τ a d) (last_of d ∷ []) []) (last_in c e m t)
+    last_in e b (Memᴰ.head {x = d} p) t = Memᴰ.append_left {s = cond (lacks_map_word τ a d) (last_of d ∷ []) []} _ (rw (← p, t) (Memᴰ.head refl))
+    last_in e b (Memᴰ.tail {x = d} {xs = c} m) t = Memᴰ.append_right (cond (lacks_map_word τ a d) (last_of d ∷ []) []) (last_in e c m t)
 
     pub last_out : (b : List Entry) (st : Store) → Memᴰ st (last_words τ a b)
         → (e : Entry) × Memᴰ e b × (lacks_map_word τ a e ≡ true) × (st ≡ last_of e)
@@ -136,7 +136,7 @@ module _ (τ : Told) where
         where
           go : (r : Lane) → LaneInv (layout_in τ a) A l r → LaneOf τ a b l r → ended (layout_in τ a) r ≡ lane_lacks b l
           go r w (untouched x n) = idle_ended (layout_in τ a) A l r w x.idle ∙ sym (lane-none (lacks_map_word τ a) b l n)
-          go r w (written e m p is) = ap (ended (layout_in τ a)) is ∙ with-ended e ∙ sym (rw (← p) (lane_test (lacks_map_word τ a) b f e m))
+          go r w (written e m p is) = ap (ended (layout_in τ a)) is ∙ with-ended e ∙ sym (rw (← p) (lane_test (lacks_map_word τ a) e b f m))
 
       -- opening's stores are their map words
       pub mends_last : SameMembers (mends (layout_in τ a) A (layout_in τ a).N) (last_words τ a b)
@@ -151,14 +151,14 @@ module _ (τ : Told) where
               let w = any_some (λ e. eqb e.lane r.0 && lacks_map_word τ a e) b (sym (ended_is r.0 r.1) ∙ r.2) in
               let p = and_elim (eqb w.0.lane r.0) (lacks_map_word τ a w.0) w.2 in
               let q = eqb-true w.0.lane r.0 p.0 in
-              Memᴰ.cast (r.3 ∙ ap final_store (ap (lane_at lanes) (sym q) ∙ lane_is w.0 w.1 p.1)) (last_in b w.0 w.1 p.1)
+              Memᴰ.cast (r.3 ∙ ap final_store (ap (lane_at lanes) (sym q) ∙ lane_is w.0 w.1 p.1)) (last_in w.0 b w.1 p.1)
 
           from : (st : Store) → Memᴰ st (last_words τ a b) → Memᴰ st (finals (layout_in τ a) lanes (layout_in τ a).N)
           from st m =
               let r = last_out b st m in
               let is = lane_is r.0 r.1 r.2 in
               Memᴰ.cast (r.3 ∙ ap final_store (sym is)) (finals_in (layout_in τ a) lanes (layout_in τ a).N r.0.lane (lane_in r.0 r.1)
-              (ended_is r.0.lane (lane_in r.0 r.1) ∙ lane_test (lacks_map_word τ a) b f r.0 r.1 ∙ r.2))
+              (ended_is r.0.lane (lane_in r.0 r.1) ∙ lane_test (lacks_map_word τ a) r.0 b f r.1 ∙ r.2))
 
       -- as many as the pending lanes
       pub pending_last : pending_lanes (layout_in τ a) A (layout_in τ a).N ≡ length (last_words τ a b)

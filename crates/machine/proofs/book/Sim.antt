@@ -96,12 +96,12 @@ module _ (τ : Told) where
     pub held : HeldIn τ y
 
   -- the bytes of the write to a sector
-  bytes-of : (a : List ℕ) (bytes : ℕ → List ℕ) (b : List Entry) → Differ b → (e : Entry) → Memᴰ e b → in_flight_yet τ a e ≡ false → (buffer : List ℕ)
+  bytes-of : (a : List ℕ) (bytes : ℕ → List ℕ) (e : Entry) (b : List Entry) → Differ b → Memᴰ e b → in_flight_yet τ a e ≡ false → (buffer : List ℕ)
       → bytes_of τ a bytes b e.sector buffer ≡ bytes e.lane
   unfolding bytes_of
-  bytes-of a bytes b f e (Memᴰ.head p) t buffer = rw (← p, eq-eqb e.sector e.sector refl, t)
-  bytes-of a bytes b f e (Memᴰ.tail {x = d} {xs = c} m) t buffer =
-      rw (ne_eqb d.sector e.sector (f.0 e m).1) (bytes-of a bytes c f.1 e m t buffer)
+  bytes-of a bytes e b f (Memᴰ.head p) t buffer = rw (← p, eq-eqb e.sector e.sector refl, t)
+  bytes-of a bytes e b f (Memᴰ.tail {x = d} {xs = c} m) t buffer =
+      rw (ne_eqb d.sector e.sector (f.0 e m).1) (bytes-of a bytes e c f.1 m t buffer)
 
   module _ (a : List ℕ) (bytes : ℕ → List ℕ) (x : FirstArena τ a) (b : List Entry) (y : State) (z : Sim a bytes b y) where
     flies : (l : ℕ) → l < (figures_in a).lanes → is_busy (lane_at y.handle.table l) ≡ lane_flies τ a b l
@@ -188,7 +188,7 @@ module _ (τ : Told) where
     read_buffer s buffer zero_number = by_bool (sector_done τ a b s) _
         (λ t. let d = finished s t in
         let new = read_new τ a bytes x b z.ok y.arena y.handle z.held z.figures z.arena s buffer d.entry d.member d.whole d.sector in
-        rw (t, ← d.sector, bytes-of a bytes b z.ok.differ d.entry d.member d.landed buffer)
+        rw (t, ← d.sector, bytes-of a bytes d.entry b z.ok.differ d.member d.landed buffer)
         (rw d.sector (ap (λ (r : Read). r.buffer) new ∙ holds_read (figures_in a) (bytes d.entry.lane) s buffer
         (ap (λ (r : Read). r.number) (sym new) ∙ number_of (read s buffer) ∙ zero_number))))
         (λ t. rw t (ap (λ (r : Read). r.buffer)

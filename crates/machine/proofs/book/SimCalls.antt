@@ -171,7 +171,7 @@ module _ (τ : Told) where
     unfolding book_number answer
     steps_next n u v size = rw (
       lt-leb (figures_in a).lanes l v,
-      any_of (λ e. eqb e.lane l && in_flight_yet τ a e) (entry_of l s n ∷ b) (entry_of l s n) (Memᴰ.head refl)
+      any_of (λ e. eqb e.lane l && in_flight_yet τ a e) (entry_of l s n) (entry_of l s n ∷ b) (Memᴰ.head refl)
           (and_intro (eqb l l) (ltb n (write_stores (layout_in τ a))) (eq-eqb l l refl) (lt-ltb n (write_stores (layout_in τ a)) u)),
       eq-eqb (length buffer) (figures_in a).size size,
     )

@@ -133,5 +133,5 @@ module _ (τ : Told) where
       (λ e. (fresh_of a bytes x b y z c (λ d f m n. far d f m (Memᴰ.append_left rest n)) e, lends_of a bytes x b y z c le.0 e)) in
       let r = sim_run a bytes x cs (book_next τ a b c) (after y c) z' (λ d m. small d (Memᴰ.tail m)) le.1 (differ_right w rest di)
       (λ d e m n. ⊎_elim (λ k. far_from b (w ++ rest) far d e k (Memᴰ.append_right w n))
-      (λ k. far_from w rest (differ_across w rest di) d e k n) (next_like a bytes x b y z c d m)) in
+      (λ k. far_from w rest (λ x y. differ_across x y w rest di) d e k n) (next_like a bytes x b y z c d m)) in
       (ap₂ {C = List Reply} (λ p q. p ∷ q) (reply_is τ a bytes x b y z c) r.0, r.1)

@@ -55,15 +55,15 @@ module _ (τ : Told) where
       pub early : number < entry.tally
       pub is : st ≡ store_of entry number
 
-    kept_in : (b : List Entry) (e : Entry) → Memᴰ e b → (k : ℕ) → k < e.tally → Memᴰ (store_of e k) (kept τ a bytes b)
+    kept_in : (e : Entry) (b : List Entry) → Memᴰ e b → (k : ℕ) → k < e.tally → Memᴰ (store_of e k) (kept τ a bytes b)
     unfolding kept
-    kept_in b e (Memᴰ.head {x = d} p) k u =
+    kept_in e b (Memᴰ.head {x = d} p) k u =
         Memᴰ.append_left _ (Memᴰ.cast (ap (λ (y : Entry). store_of y k) p)
         (first_in (layout_in τ a) (plan_in τ a d) (bytes d.lane) d.tally k (subst (λ (y : Entry). k < y.tally) p u)))
-    kept_in b e (Memᴰ.tail {x = d} {xs = c} m) k u = Memᴰ.append_right (stores_in τ a bytes d d.tally) (kept_in c e m k u)
+    kept_in e b (Memᴰ.tail {x = d} {xs = c} m) k u = Memᴰ.append_right (stores_in τ a bytes d d.tally) (kept_in e c m k u)
 
     pub kept_from : (b : List Entry) (st : Store) → KeptAs b st → Memᴰ st (kept τ a bytes b)
-    kept_from b st r = Memᴰ.cast r.is (kept_in b r.entry r.member r.number r.early)
+    kept_from b st r = Memᴰ.cast r.is (kept_in r.entry b r.member r.number r.early)
 
     pub kept_out : (b : List Entry) (st : Store) → Memᴰ st (kept τ a bytes b) → KeptAs b st
     unfolding kept
@@ -85,7 +85,7 @@ module _ (τ : Told) where
       where
         move : (b c : List Entry) → ((e : Entry) → Memᴰ e b → Memᴰ e c) → (st : Store) → Memᴰ st (kept τ a bytes b)
             → Memᴰ st (kept τ a bytes c)
-        move b c f st m = let r = kept_out b st m in Memᴰ.cast r.is (kept_in c r.entry (f r.entry r.member) r.number r.early)
+        move b c f st m = let r = kept_out b st m in Memᴰ.cast r.is (kept_in r.entry c (f r.entry r.member) r.number r.early)
 
     -- ---- entries in range
 
@@ -150,7 +150,7 @@ module _ (τ : Told) where
           (λ f. writes_apart e d p q f i.0 j.0 i.1 j.1
           (at_inj g x.ok _ _ (store_range g _ (plan-in e p) _ i.0 i.1) (store_range g _ (plan-in d q) _ j.0 j.1)
           (rw (i.2, j.2) at z)))
-          (differ_pair b o.differ e d m n)
+          (differ_pair e d b o.differ m n)
 
       module _ (b : List Entry) (o : BookOk b) where
         late : (e : Entry) → Memᴰ e b → (k : ℕ) → k < e.tally → k < write_stores (layout_in τ a)
@@ -180,7 +180,7 @@ module _ (τ : Told) where
                 rw (r.is, s.is)
                 (⊎_elim (λ p. same r.entry s.entry r.number s.number p u v z)
                 (λ f. absurd (writes_apart r.entry s.entry (o.each _ r.member) (o.each _ s.member) f r.number s.number u v z))
-                (differ_pair b o.differ r.entry s.entry r.member s.member))
+                (differ_pair r.entry s.entry b o.differ r.member s.member))
 
         -- in any order
         pub kept_order : (stores : List Store) → SameMembers stores (kept τ a bytes b)
@@ -190,7 +190,7 @@ module _ (τ : Told) where
         -- a store that was made
         pub kept_here : (e : Entry) → Memᴰ e b → (k : ℕ) → k < e.tally
             → word (booked b) (at (layout_in τ a) (store_of e k).place) ≡ (store_of e k).value
-        kept_here e m k u = word-hit (layout_in τ a) x.ok (kept τ a bytes b) a x.arena kept_fits kept_agree (store_of e k) (kept_in b e m k u)
+        kept_here e m k u = word-hit (layout_in τ a) x.ok (kept τ a bytes b) a x.arena kept_fits kept_agree (store_of e k) (kept_in e b m k u)
 
         -- a place that no write has stored to
         kept_away : (p : Place) → InRange (layout_in τ a) p
@@ -241,7 +241,7 @@ module _ (τ : Told) where
           to : (st : Store) → Memᴰ st (kept τ a bytes b ++ extra) → Memᴰ st (kept τ a bytes (map (retally t) b))
           to st m = ⊎_elim
               (λ n. let r = kept_out b st n in
-              Memᴰ.cast r.is (kept_in (map (retally t) b) (retally t r.entry) (Memᴰ.map (retally t) r.member) r.number
+              Memᴰ.cast r.is (kept_in (retally t r.entry) (map (retally t) b) (Memᴰ.map (retally t) r.member) r.number
               (omega (arith, r.early, grows r.entry r.member))))
               (λ n. kept_from (map (retally t) b) st (known st n))
               (Memᴰ.append_cases (kept τ a bytes b) m)
@@ -250,7 +250,7 @@ module _ (τ : Told) where
           from st m = let r = kept_out (map (retally t) b) st m in go r.number r.early r.is (Memᴰ.of_map (retally t) b r.member)
             where
               pick : (e : Entry) → Memᴰ e b → (k : ℕ) → k < t e → Dec (k < e.tally) → Memᴰ (store_of e k) (kept τ a bytes b ++ extra)
-              pick e n k u (yes v) = Memᴰ.append_left extra (kept_in b e n k v)
+              pick e n k u (yes v) = Memᴰ.append_left extra (kept_in e b n k v)
               pick e n k u (no v) = Memᴰ.append_right (kept τ a bytes b) (added e n k (omega arith) u)
 
               go : {d : Entry} (k : ℕ) → k < d.tally → st ≡ store_of d k → ((e : Entry) × Memᴰ e b × (retally t e ≡ d))
