@@ -5,4 +5,4 @@ use Rattle.fletcher.proofs.Sums.add.Goals as goal
 
 pub returns : goal.returns
 unfolding added
-returns c = rw (c.wrapping_add_u32-high.ensures, c.wrapping_add_u32-low.ensures)
+returns c = rw (c.wrapping_add_u32-high.ensures.value, c.wrapping_add_u32-low.ensures.value)

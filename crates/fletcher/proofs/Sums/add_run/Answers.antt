@@ -9,4 +9,4 @@ unfolding joined_run
 returns c =
     let args = c.args in
     let high = often args.self.high args.n args.self.low args.run.high in
-    λ i. record { low = c.wrapping_add_u32.ensures i; high = high i }
+    λ i. record { low = c.wrapping_add_u32.ensures.value i; high = high i }

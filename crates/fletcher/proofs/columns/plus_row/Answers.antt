@@ -5,7 +5,7 @@ use Rattle.fletcher.proofs.Rows.{length-plus, get_d_plus, stored_next, all_store
 use Rattle.fletcher.proofs.columns.plus_row.Goals as goal
 
 pub loop-j-init : goal.loop-j-init
-loop-j-init c = (search rules, refl, c.well-formed.0.1.0.1, c.well-formed.1.0.1.0.1, refl)
+loop-j-init c = (search rules, refl, search rules, search rules, refl)
 
 pub loop-j-preserved : goal.loop-j-preserved
 loop-j-preserved c =
@@ -13,18 +13,18 @@ loop-j-preserved c =
     let args = c.args in
     let v = c.wrapping_add_u32.result in
     let xy = l.invariant.2 ∙ sym l.invariant.3 in
-    let e = length-plus args.t1 args.t2 xy in
-    let w = c.wrapping_add_u32.ensures ∙ sym (get_d_plus args.t1 args.t2 l.j xy (omega arith)) in (
+    let e = length-plus args.x args.y xy in
+    let w = c.wrapping_add_u32.ensures.value ∙ sym (get_d_plus args.x args.y l.j xy (omega arith)) in (
       search rules,
       length-set l.row l.j v ∙ l.invariant.1,
       l.invariant.2,
       l.invariant.3,
-      stored_next l.row (plus args.t1 args.t2) l.j v (omega arith) (omega arith) l.invariant.4 w,
+      stored_next l.row (plus args.x args.y) l.j v (omega arith) (omega arith) l.invariant.4 w,
     )
 
 pub returns : goal.returns
 returns c =
     let l = c.loop-j in
     let args = c.args in
-    let e = length-plus args.t1 args.t2 (l.invariant.2 ∙ sym l.invariant.3) in
-    all_stored l.row (plus args.t1 args.t2) l.j (omega arith) (omega arith) l.invariant.4
+    let e = length-plus args.x args.y (l.invariant.2 ∙ sym l.invariant.3) in
+    all_stored l.row (plus args.x args.y) l.j (omega arith) (omega arith) l.invariant.4
