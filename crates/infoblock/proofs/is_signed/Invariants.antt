@@ -1,0 +1,21 @@
+-- `is_signed` meets its contract. The invariant: every word of the signature before k is right. A wrong word makes the whole test
+-- false.
+use borrow.Author.Tests.{ne_eqb, eq-eqb}
+use borrow.Author.Rules.{rules}
+use native.Mathlib.Omega.{arith}
+use lib.Dec.{eqb}
+use Prim.Native.Nat.{◌≤◌, ◌-◌}
+use mathlib.Core.Bool.{true}
+use mathlib.Core.Path.{◌≡◌, sym, refl, ◌∙◌}
+use Rattle.infoblock.proofs.Signed.{signature-word}
+use Rattle.infoblock.specs.Info.{signature, signed}
+use Rattle.format.specs.Tests.{every}
+use Rattle.format.proofs.Tests.{every_more, every_fails}
+use Rattle.words.specs.Word.{word}
+use Rattle.infoblock.proofs.is_signed.Given as goal
+
+abbrev pub invariant-loop-k : goal.invariant-loop-k
+invariant-loop-k l = (l.k ≤ 4) × (every l.k (λ j. eqb (word l.b j) (word signature j)) ≡ true)
+
+abbrev pub decreases-loop-k : goal.decreases-loop-k
+decreases-loop-k l = 4 - l.k
