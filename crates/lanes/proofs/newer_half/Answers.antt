@@ -1,0 +1,11 @@
+-- `lanes::newer_half` meets its contract: the pair at a lane's first word is the lane's, and each arm knows its variant.
+use mathlib.Core.Path.{sym, ap, ◌∙◌}
+use native.Mathlib.Omega.{arith}
+use borrow.Author.Rules.{rules}
+use Rattle.format.specs.Sequence.{half_of}
+use Rattle.lanes.proofs.Lanes.{pair_inside, pair_newer}
+use Rattle.lanes.proofs.newer_half.Goals as goal
+
+pub newer_of_pair-requires : goal.newer_of_pair-requires
+newer_of_pair-requires c =
+    omega (arith, c.flog_place.ensures, pair_inside _ _ _ c.requires.0 _ c.requires.1)

@@ -1,0 +1,51 @@
+-- `lanes::padding_set` meets its contract. The invariant: no word passed is padding that is not zero.
+use mathlib.Core.Bool.{Bool, false, not, ◌&&◌}
+use mathlib.Core.Logic.{⊎_elim}
+use mathlib.Core.List.{List}
+use mathlib.Core.Path.{◌≡◌, sym, ap, ◌∙◌}
+use Prim.Native.Nat.{ℕ, ◌-◌, ◌≤◌}
+use native.Mathlib.Nat.{le_antisymm}
+use lib.Dec.{eqb}
+use borrow.Author.Tests.{eq-eqb, ne_eqb}
+use borrow.Author.Rules.{rules}
+use Rattle.words.specs.Word.{word}
+use Rattle.format.specs.Tests.{some}
+use Rattle.format.proofs.Tests.{some_zero, some_more, some-found}
+use Rattle.layout.specs.Place.{layout_of, is_padding}
+use Rattle.layout.specs.declared.Figures.{Figures}
+use Rattle.machine.specs.state.Flog.{lane_word, padding_set}
+use Rattle.lanes.proofs.Lanes.{lane_inside}
+use Rattle.lanes.proofs.padding_set.Invariants.{set}
+use Rattle.lanes.proofs.padding_set.Goals as goal
+
+pub loop-k-init : goal.loop-k-init
+loop-k-init c = (search rules, some_zero _)
+
+pub word_at-requires : goal.word_at-requires
+word_at-requires c =
+    rw (c.lane_place.ensures c.args.d) (lane_inside _ _ _ c.requires.0 _ _ c.requires.1 c.loop-k-test.true)
+
+pub returns-then-word_at-ne0 : goal.returns-then-word_at-ne0
+unfolding padding_set layout_of
+returns-then-word_at-ne0 c =
+    let w = c.word_at.ensures ∙ ap (word c.args.a.now) (c.lane_place.ensures c.args.d) in
+    let n = ne_eqb _ 0 (λ e. c.if-word_at-ne0.true (w ∙ e)) in
+    sym (some-found 16 _ _ c.loop-k-test.true (rw (← c.is_padding.ensures, c.if-is_padding.true, n)))
+
+pub loop-k-preserved : goal.loop-k-preserved
+unfolding layout_of
+loop-k-preserved c =
+    (
+      search rules,
+      some_more _ _ c.loop-k.invariant.1
+          (⊎_elim
+          (λ u. let w = u.2.ensures ∙ ap (word c.args.a.now) (u.1.ensures c.args.d) in
+          rw (← c.is_padding.ensures, u.0.taken, eq-eqb _ 0 (sym w ∙ u.3.left)))
+          (λ u. rw (← c.is_padding.ensures, u.left))
+          c.if-is_padding.branch),
+    )
+
+pub returns : goal.returns
+unfolding padding_set layout_of
+returns c =
+    sym (rw (le_antisymm c.loop-k.invariant.0 c.loop-k-test.false) at c.loop-k.invariant.1)

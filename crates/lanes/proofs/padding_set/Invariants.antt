@@ -1,0 +1,28 @@
+-- `lanes::padding_set` meets its contract. The invariant: no word passed is padding that is not zero.
+use mathlib.Core.Bool.{Bool, false, not, ◌&&◌}
+use mathlib.Core.Logic.{⊎_elim}
+use mathlib.Core.List.{List}
+use mathlib.Core.Path.{◌≡◌, sym, ap, ◌∙◌}
+use Prim.Native.Nat.{ℕ, ◌-◌, ◌≤◌}
+use native.Mathlib.Nat.{le_antisymm}
+use lib.Dec.{eqb}
+use borrow.Author.Tests.{eq-eqb, ne_eqb}
+use borrow.Author.Rules.{rules}
+use Rattle.words.specs.Word.{word}
+use Rattle.format.specs.Tests.{some}
+use Rattle.format.proofs.Tests.{some_zero, some_more, some-found}
+use Rattle.layout.specs.Place.{layout_of, is_padding}
+use Rattle.layout.specs.declared.Figures.{Figures}
+use Rattle.machine.specs.state.Flog.{lane_word, padding_set}
+use Rattle.lanes.proofs.Lanes.{lane_inside}
+use Rattle.lanes.proofs.padding_set.Given as goal
+
+-- word k of lane l is padding and not zero
+abbrev pub set : ℕ → Figures → List ℕ → ℕ → ℕ → Bool
+set d f a l k = is_padding (layout_of d f).D k && not (eqb (lane_word (layout_of d f) a l k) 0)
+
+abbrev pub invariant-loop-k : goal.invariant-loop-k
+invariant-loop-k l = (l.k ≤ 16) × (some l.k (set l.d l.f l.a l.l.0) ≡ false)
+
+abbrev pub decreases-loop-k : goal.decreases-loop-k
+decreases-loop-k l = 16 - l.k

@@ -1,0 +1,18 @@
+-- `making::put_flog` meets its contract. The loop's invariant: l lanes are stored. The measure is what is left of n.
+use native.Mathlib.Nat.{le_antisymm}
+use lib.ListN.{length}
+use Prim.Native.Nat.{◌-◌, ◌≤◌}
+use mathlib.Core.Path.{◌≡◌, refl, ap, ◌∙◌}
+use borrow.Author.Rules.{rules}
+use native.Mathlib.Omega.{arith}
+use Rattle.words.specs.Word.{put_words}
+use Rattle.words.proofs.Runs.{length-put_words}
+use Rattle.machine.specs.calls.Making.{fresh_flog}
+use Rattle.making.proofs.Laws.{put_flog_more}
+use Rattle.making.proofs.put_flog.Given as goal
+
+abbrev pub invariant-loop-l : goal.invariant-loop-l
+invariant-loop-l l = (l.l ≤ l.n) × (l.a ≡ put_words l.initial.a l.i (fresh_flog l.sectors 0 l.l))
+
+abbrev pub decreases-loop-l : goal.decreases-loop-l
+decreases-loop-l l = l.n - l.l
