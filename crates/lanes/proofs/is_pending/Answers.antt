@@ -5,7 +5,7 @@ use Rattle.lanes.proofs.Lanes.{map_fit, sector_is, old_is, reads, has_half}
 use Rattle.lanes.proofs.is_pending.Goals as goal
 
 pub newer_flog-h-requires : goal.newer_flog-h-requires
-newer_flog-h-requires c = has_half _ _ _ _ c.requires
+newer_flog-h-requires c = let h = has_half _ _ _ _ c.requires in record { fit = h.0; l_bound = h.1 }
 
 pub map_block-b-requires : goal.map_block-b-requires
 unfolding layout_of

@@ -8,8 +8,8 @@ use Rattle.lanes.proofs.newer_flog.Goals as goal
 
 pub half_at-requires : goal.half_at-requires
 half_at-requires c =
-    let n = rw (← c.newer_half-half.ensures) at c.requires.1 in
-    omega (arith, c.flog_place.ensures, half_inside _ _ _ c.requires.0.0 _ _ c.requires.0.1 n)
+    let n = rw (← c.newer_half-half.ensures) at c.requires.l_bound in
+    omega (arith, c.flog_place.ensures, half_inside _ _ _ c.requires.fit.0 _ _ c.requires.fit.1 n)
 
 pub returns : goal.returns
 unfolding newer_flog

@@ -9,3 +9,12 @@ use Rattle.lanes.proofs.newer_half.Goals as goal
 pub newer_of_pair-requires : goal.newer_of_pair-requires
 newer_of_pair-requires c =
     omega (arith, c.flog_place.ensures, pair_inside _ _ _ c.requires.0 _ c.requires.1)
+
+pub returns-in-First : goal.returns-in-First
+returns-in-First c = c.in-First.ensures ∙ rw c.flog_place.ensures (pair_newer _ _ _ _)
+
+pub returns-in-Second : goal.returns-in-Second
+returns-in-Second c = c.in-Second.ensures ∙ rw c.flog_place.ensures (pair_newer _ _ _ _)
+
+pub returns-in-Neither : goal.returns-in-Neither
+returns-in-Neither c = c.in-Neither.ensures ∙ rw c.flog_place.ensures (pair_newer _ _ _ _)

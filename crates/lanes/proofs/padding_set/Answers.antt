@@ -17,6 +17,7 @@ use Rattle.machine.specs.state.Flog.{lane_word, padding_set}
 use Rattle.lanes.proofs.Lanes.{lane_inside}
 use Rattle.lanes.proofs.padding_set.Invariants.{set}
 use Rattle.lanes.proofs.padding_set.Goals as goal
+use Rattle.lanes.proofs.padding_set.Goals.{then-is_padding+else-word_at-ne0, else-is_padding}
 
 pub loop-k-init : goal.loop-k-init
 loop-k-init c = (search rules, some_zero _)
@@ -38,11 +39,12 @@ loop-k-preserved c =
     (
       search rules,
       some_more _ _ c.loop-k.invariant.1
-          (⊎_elim
-          (λ u. let w = u.2.ensures ∙ ap (word c.args.a.now) (u.1.ensures c.args.d) in
-          rw (← c.is_padding.ensures, u.0.taken, eq-eqb _ 0 (sym w ∙ u.3.left)))
-          (λ u. rw (← c.is_padding.ensures, u.left))
-          c.if-is_padding.branch),
+          (elim c.if-is_padding.branch [
+            then-is_padding+else-word_at-ne0 w ↦
+              let x = w.word_at.ensures ∙ ap (word c.args.a.now) (w.lane_place.ensures c.args.d) in
+              rw (← c.is_padding.ensures, w.if-is_padding.true, eq-eqb _ 0 (sym x ∙ w.if-word_at-ne0.false))
+          | else-is_padding w ↦ rw (← c.is_padding.ensures, w.if-is_padding.false)
+          ]),
     )
 
 pub returns : goal.returns

@@ -5,7 +5,7 @@ use Rattle.lanes.proofs.Lanes.{old_is, new_is, has_half}
 use Rattle.lanes.proofs.spare_block.Goals as goal
 
 pub newer_flog-h-requires : goal.newer_flog-h-requires
-newer_flog-h-requires c = has_half _ _ _ _ c.requires
+newer_flog-h-requires c = let h = has_half _ _ _ _ c.requires in record { fit = h.0; l_bound = h.1 }
 
 pub returns-then-is_pending : goal.returns-then-is_pending
 unfolding spare_of
