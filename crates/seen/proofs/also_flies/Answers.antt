@@ -1,5 +1,4 @@
 -- `seen::also_flies` meets its contract by that of `in_flight`.
-use borrow.Author.Rules.{rules}
 use Rattle.seen.proofs.also_flies.Goals as goal
 
 pub returns : goal.returns

@@ -1,7 +1,5 @@
 -- `seen::in_flight` meets its contract: the first test of the definition decides, or the second.
 use mathlib.Core.Path.{sym, ◌∙◌}
-use borrow.Author.Tests.{not-true, not-false}
-use borrow.Author.Rules.{rules}
 use Rattle.seen.proofs.in_flight.Goals as goal
 
 pub returns-then-not-is_busy : goal.returns-then-not-is_busy

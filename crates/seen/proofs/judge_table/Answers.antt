@@ -2,7 +2,6 @@
 use mathlib.Core.Path.{sym, ◌∙◌}
 use borrow.Author.Tests.{not-true, not-false}
 use Rattle.seen.proofs.Laws.{handle_refuses, table-refuses, records_refuse, table_passes}
-use borrow.Author.Rules.{rules}
 use Rattle.seen.proofs.judge_table.Goals as goal
 
 pub returns-then-not-handle_allowed : goal.returns-then-not-handle_allowed
@@ -16,9 +15,9 @@ returns-then-seen-h c =
 pub returns-then-not-seen : goal.returns-then-not-seen
 returns-then-not-seen c =
     let ok = sym c.handle_allowed.ensures ∙ c.if-not-handle_allowed.false in
-    λ a l s n t e. records_refuse a _ t l s _ e (rw n ok) c.if-seen-h.false (c.if-not-seen.true)
+    λ a l s n t e. records_refuse a _ t l s _ e (rw n ok) c.if-seen-h.false (not-true _ c.if-not-seen.true)
 
 pub returns : goal.returns
 returns c =
     let ok = sym c.handle_allowed.ensures ∙ c.if-not-handle_allowed.false in
-    λ a l s n t e. table_passes a _ t l s _ e (rw n ok) c.if-seen-h.false (c.if-not-seen.false)
+    λ a l s n t e. table_passes a _ t l s _ e (rw n ok) c.if-seen-h.false (not-false _ c.if-not-seen.false)

@@ -1,7 +1,6 @@
 -- `seen::judged` meets its contract: the lanes' records, or none.
 use native.Mathlib.Omega.{arith}
 use borrow.Author.Tests.{le-leb, lt-leb}
-use borrow.Author.Rules.{rules}
 use Rattle.seen.proofs.judged.Goals as goal
 
 pub returns-then-n-length : goal.returns-then-n-length

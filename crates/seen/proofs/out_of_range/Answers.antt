@@ -1,5 +1,4 @@
 -- `seen::out_of_range` meets its contract by that of `lane_allowed`, in the handle's layout.
-use borrow.Author.Rules.{rules}
 use Rattle.seen.proofs.out_of_range.Goals as goal
 
 pub returns : goal.returns
