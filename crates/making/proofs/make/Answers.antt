@@ -1,11 +1,9 @@
 -- `making::make` meets its contract. What is not refused has figures that fit, and the stores are those of a made arena.
 use mathlib.Core.Path.{sym, ◌∙◌}
-use borrow.Author.Tests.{not-true, not-false}
 use native.Mathlib.Omega.{arith}
 use Rattle.words.proofs.Runs.{length-put_words}
 use Rattle.machine.specs.calls.Making.{fresh_arena}
 use Rattle.making.proofs.Laws.{make_refused, make_done, done_passed, made_fit}
-use borrow.Author.Rules.{rules}
 use Rattle.making.proofs.make.Goals as goal
 
 pub returns-then-not-is_done : goal.returns-then-not-is_done
@@ -25,14 +23,17 @@ put_info-requires c =
     let p = done_passed _ _ c.args.arena.now c.judge_make-answer.ensures
     (sym c.is_done.ensures ∙ c.if-not-is_done.false) in
     let r = (made_fit _ _ p).room in
-    (omega arith, (omega (arith, p.first), omega (arith, p.second)))
+    record { i_in_bounds = omega arith; in_bounds = (omega (arith, p.first), omega (arith, p.second)) }
 
 pub put_tail-requires : goal.put_tail-requires
 put_tail-requires c =
     let p = done_passed _ _ c.args.arena.now c.judge_make-answer.ensures
     (sym c.is_done.ensures ∙ c.if-not-is_done.false) in
     let f = made_fit _ _ p in
-    (rw (c.fresh_figures-f.ensures, c.put_info.ensures, length-put_words) f, (omega (arith, p.first), omega (arith, p.second)))
+    record {
+      fit = rw (c.fresh_figures-f.ensures, c.put_info.ensures, length-put_words) f;
+      in_bounds = (omega (arith, p.first), omega (arith, p.second));
+    }
 
 pub returns : goal.returns
 unfolding fresh_arena

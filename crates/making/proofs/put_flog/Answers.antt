@@ -1,8 +1,7 @@
 -- `making::put_flog` meets its contract. The loop's invariant: l lanes are stored. The measure is what is left of n.
 use native.Mathlib.Nat.{le_antisymm}
 use lib.ListN.{length}
-use Prim.Native.Nat.{◌-◌, ◌≤◌}
-use mathlib.Core.Path.{◌≡◌, refl, ap, ◌∙◌}
+use mathlib.Core.Path.{refl, ap, ◌∙◌}
 use borrow.Author.Rules.{rules}
 use native.Mathlib.Omega.{arith}
 use Rattle.words.specs.Word.{put_words}

@@ -1,14 +1,8 @@
 -- `making::put_flog` meets its contract. The loop's invariant: l lanes are stored. The measure is what is left of n.
-use native.Mathlib.Nat.{le_antisymm}
-use lib.ListN.{length}
 use Prim.Native.Nat.{◌-◌, ◌≤◌}
-use mathlib.Core.Path.{◌≡◌, refl, ap, ◌∙◌}
-use borrow.Author.Rules.{rules}
-use native.Mathlib.Omega.{arith}
+use mathlib.Core.Path.{◌≡◌}
 use Rattle.words.specs.Word.{put_words}
-use Rattle.words.proofs.Runs.{length-put_words}
 use Rattle.machine.specs.calls.Making.{fresh_flog}
-use Rattle.making.proofs.Laws.{put_flog_more}
 use Rattle.making.proofs.put_flog.Given as goal
 
 abbrev pub invariant-loop-l : goal.invariant-loop-l

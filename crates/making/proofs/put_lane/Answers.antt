@@ -2,7 +2,6 @@
 use mathlib.Core.Path.{◌∙◌}
 use lib.ListN.{replicate}
 use Rattle.making.proofs.Laws.{put_four}
-use borrow.Author.Rules.{rules}
 use Rattle.making.proofs.put_lane.Goals as goal
 
 pub returns : goal.returns
