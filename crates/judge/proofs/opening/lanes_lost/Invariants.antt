@@ -1,0 +1,18 @@
+-- `judge::opening::lanes_lost` meets its contract. The invariant: every lane passed is readable.
+use mathlib.Core.Bool.{true, not}
+use mathlib.Core.Path.{◌≡◌, sym, ap, ◌∙◌}
+use Prim.Native.Nat.{◌-◌, ◌≤◌}
+use native.Mathlib.Nat.{le_antisymm}
+use borrow.Author.Tests.{not-true, not-false}
+use borrow.Author.Rules.{rules}
+use Rattle.format.specs.Tests.{every}
+use Rattle.format.proofs.Tests.{every_zero, every_more, every_fails}
+use Rattle.layout.specs.Place.{layout_of}
+use Rattle.machine.specs.calls.Opening.{lane_readable}
+use Rattle.judge.proofs.opening.lanes_lost.Given as goal
+
+abbrev pub invariant-loop-l : goal.invariant-loop-l
+invariant-loop-l l = (l.l ≤ l.f.lanes) × (every l.l (lane_readable (layout_of l.d l.f) l.a) ≡ true)
+
+abbrev pub decreases-loop-l : goal.decreases-loop-l
+decreases-loop-l l = l.f.lanes - l.l
