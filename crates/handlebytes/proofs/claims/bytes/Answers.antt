@@ -2,18 +2,13 @@
 use Rattle.handlebytes.proofs.Offsets.{head_at}
 use Rattle.handlebytes.proofs.Round.{record_stored, fits_back}
 use Rattle.handlebytes.proofs.Whole.{encoded_stands, zeroes_stand}
-use Rattle.handlebytes.proofs.claims.bytes.Statement.{statement}
-use Rattle.handlebytes.proofs.claims.bytes.Tie as tie
+use Rattle.handlebytes.proofs.claims.bytes.Goals as goal
 
-returns : tie.Need-returns
-returns c =
-    record {
+pub returns : goal.returns
+returns c = record { bytes = record {
       head = head_at;
       encoded = encoded_stands;
       zeroes = zeroes_stand;
       fits = fits_back;
       stored = record_stored;
-    }
-
-pub bytes-spec : {M : Type 1} → statement M
-bytes-spec = tie.close (tie.spec returns)
+    } }
