@@ -1,0 +1,12 @@
+-- `writing::begun` meets its contract: the map names the old block.
+use mathlib.Core.Path.{◌∙◌}
+use Rattle.lanes.proofs.Lanes.{map_fit}
+use borrow.Author.Rules.{rules}
+use Rattle.writing.proofs.begun.Goals as goal
+
+pub map_block-old-requires : goal.map_block-old-requires
+map_block-old-requires c = (map_fit _ _ _ c.requires.0, c.requires.1)
+
+pub returns : goal.returns
+returns c =
+    c.start.ensures ∙ rw (c.map_block-old.ensures c.args.h.distance)
