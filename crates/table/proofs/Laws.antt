@@ -1,10 +1,9 @@
--- Laws of a table: a record is stored past its end as nothing and read there as zeroes, and a table that is filled, lane by lane.
+-- Laws of a table that is filled, lane by lane.
 use mathlib.Core.Path.{◌≡◌, refl, sym, ◌∙◌}
 use mathlib.Core.List.{List, [], ◌∷◌, ◌++◌, append_assoc}
-use Prim.Native.Nat.{ℕ, zero, suc, ◌+◌, ◌≤◌, ◌<◌}
-use native.Mathlib.Omega.{arith}
+use Prim.Native.Nat.{ℕ, suc, ◌+◌, ◌<◌}
 use native.Mathlib.Numerals.{add-one}
-use lib.ListN.{length, set, drop, get_or, length-append, length-drop}
+use lib.ListN.{length, set, drop}
 use lib.Seq.{set_at, drop-cons}
 use Rattle.layout.specs.Place.{layout_of}
 use Rattle.machine.specs.declared.handle.Handle as bare
@@ -14,20 +13,10 @@ use Rattle.machine.specs.calls.Opening.{found_lane, found_lanes}
 use Rattle.machine.proofs.invariant.Lanes.{found-length}
 use Rattle.lanes.specs.Filled.{filled_to}
 
-pub get_d_past : {A : Type 0} (l : List A) (i : ℕ) (d : A) → length l ≤ i → d ≡ get_or l i d
-get_d_past [] i d h = refl
-get_d_past (y ∷ ys) zero d h = absurd (omega arith)
-get_d_past (y ∷ ys) (suc i) d h = get_d_past ys i d (omega arith)
-
 module _ (h : bare.Handle) (a : List ℕ) (t : List Lane) where
   pub filled_none : t ≡ filled_to h a t 0
   unfolding found_lanes
   filled_none = refl
-
-  pub filled-length : (i : ℕ) → i ≤ length t → length (filled_to h a t i) ≡ length t
-  filled-length i u =
-      let g = layout_of h.distance h.figures in
-      length-append (found_lanes g a i) (drop i t) ∙ rw (found-length g a i, length-drop i t) (omega arith)
 
   pub filled_more : (i : ℕ) → i < length t → set (filled_to h a t i) i (found_lane (layout_of h.distance h.figures) a i) ≡ filled_to h a t (i + 1)
   filled_more i u =
