@@ -1,7 +1,5 @@
 pub mod Laws
 pub mod Looks
-pub mod Opened
-pub mod Covered
 pub mod Fits
 pub mod Same
 pub mod Alike

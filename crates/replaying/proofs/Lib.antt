@@ -9,7 +9,4 @@ pub mod Numbers
 pub mod Rest
 pub mod Spare
 pub mod Words
-pub mod Covered
-pub mod Values
-pub mod Contracts
 pub mod Turns
