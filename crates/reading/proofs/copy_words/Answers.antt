@@ -1,8 +1,7 @@
 -- `reading::copy_words` meets its contract. The loop's invariant: k words are copied. The measure is what is left of n.
 use native.Mathlib.Nat.{le_antisymm}
 use lib.ListN.{length}
-use Prim.Native.Nat.{◌-◌, ◌≤◌}
-use mathlib.Core.Path.{◌≡◌, refl, sym, ap, ◌∙◌}
+use mathlib.Core.Path.{refl, sym, ap, ◌∙◌}
 use borrow.Author.Rules.{rules}
 use native.Mathlib.Omega.{arith}
 use Rattle.words.specs.Word.{put_words, words_from}
@@ -18,11 +17,10 @@ pub put_word-requires : goal.put_word-requires
 put_word-requires c = omega (arith, simp length-put_words at (ap length c.loop-k.invariant.1))
 
 pub loop-k-preserved : goal.loop-k-preserved
-loop-k-preserved c =
-    (
-      search rules,
-      rw (c.put_word.ensures, c.word_at-word.ensures, c.loop-k.invariant.1) (sym (copy_step _ _ _ c.loop-k.k)),
-    )
+loop-k-preserved c = (
+  search rules,
+  rw (c.put_word.ensures, c.word_at-word.ensures, c.loop-k.invariant.1) (sym (copy_step _ _ _ c.loop-k.k)),
+)
 
 pub shape_of-buffer : goal.shape_of-buffer
 shape_of-buffer c = ap length c.loop-k.invariant.1 ∙ simp length-put_words

@@ -1,13 +1,7 @@
 -- `reading::copy_words` meets its contract. The loop's invariant: k words are copied. The measure is what is left of n.
-use native.Mathlib.Nat.{le_antisymm}
-use lib.ListN.{length}
 use Prim.Native.Nat.{◌-◌, ◌≤◌}
-use mathlib.Core.Path.{◌≡◌, refl, sym, ap, ◌∙◌}
-use borrow.Author.Rules.{rules}
-use native.Mathlib.Omega.{arith}
+use mathlib.Core.Path.{◌≡◌}
 use Rattle.words.specs.Word.{put_words, words_from}
-use Rattle.words.proofs.Runs.{length-put_words}
-use Rattle.reading.proofs.Copies.{copy_step}
 use Rattle.reading.proofs.copy_words.Given as goal
 
 abbrev pub invariant-loop-k : goal.invariant-loop-k

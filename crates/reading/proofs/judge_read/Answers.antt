@@ -2,14 +2,13 @@
 -- their order.
 use mathlib.Core.Path.{refl, sym, ap, ◌∙◌}
 use mathlib.Core.Bool.{not}
-use borrow.Author.Tests.{not-true, not-false, eqb-true, le-leb, lt-leb, eq-eqb, ne_eqb}
+use borrow.Author.Tests.{eqb-true, le-leb, lt-leb, eq-eqb, ne_eqb}
 use Rattle.format.specs.MapWord.{flags_of, reading_of, bad_word, sloppy_word}
 use Rattle.format.proofs.MapWord.{fault_bad, fault_in, fault_sloppy, fault_clean}
 use Rattle.lanes.proofs.Lanes.{map_fit}
 use Rattle.machine.specs.calls.Judging.{call_number}
 use Rattle.machine.proofs.rules.Rules.{stop, pass, through}
 use Rattle.seen.proofs.Laws.{table_fit, first-refuses, rest_walk}
-use borrow.Author.Rules.{rules}
 use Rattle.reading.proofs.judge_read.Goals as goal
 
 pub returns-then-not-is_done : goal.returns-then-not-is_done

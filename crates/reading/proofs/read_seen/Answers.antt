@@ -1,17 +1,15 @@
 -- `reading::read_seen` meets its contract: a refused read leaves its buffer, and an accepted one fills it, by its map word, with the block's
 -- bytes or zeroes, whatever table it was of which that is seen.
-use denote.Slice.{shr_slice_at}
 use mathlib.Core.Path.{sym, ap, ◌∙◌}
 use Prim.Native.Nat.{ℕ}
 use native.Mathlib.Omega.{arith}
-use borrow.Author.Tests.{eqb-true, not-true, not-false}
+use borrow.Author.Tests.{eqb-true}
 use Rattle.format.specs.MapWord.{flags_of, reading_of, block_of}
 use Rattle.layout.specs.Place.{layout_of, in_data, at}
 use Rattle.lanes.proofs.Lanes.{map_fit}
 use Rattle.machine.specs.state.Handle.{with}
 use Rattle.machine.proofs.calls.Running.{handle_fit}
 use Rattle.reading.proofs.Laws.{refused, known, inside, gives_bytes, gives_zeroes}
-use borrow.Author.Rules.{rules}
 use Rattle.reading.proofs.read_seen.Goals as goal
 
 pub returns-then-not-is_done : goal.returns-then-not-is_done

@@ -2,7 +2,6 @@
 use mathlib.Core.Path.{sym, ◌∙◌}
 use Rattle.layout.specs.Place.{layout_of}
 use Rattle.machine.proofs.invariant.Steps.{stored_more, stored_last}
-use borrow.Author.Rules.{rules}
 use Rattle.writing.proofs.after_store.Goals as goal
 
 pub returns-then-r-f : goal.returns-then-r-f

@@ -1,7 +1,6 @@
 -- `writing::begun` meets its contract: the map names the old block.
 use mathlib.Core.Path.{◌∙◌}
 use Rattle.lanes.proofs.Lanes.{map_fit}
-use borrow.Author.Rules.{rules}
 use Rattle.writing.proofs.begun.Goals as goal
 
 pub map_block-old-requires : goal.map_block-old-requires

@@ -2,11 +2,10 @@
 -- their order.
 use mathlib.Core.Path.{refl, sym, ap, ◌∙◌}
 use mathlib.Core.Bool.{not}
-use borrow.Author.Tests.{not-true, not-false, eqb-true, le-leb, lt-leb, eq-eqb, ne_eqb}
+use borrow.Author.Tests.{eqb-true, le-leb, lt-leb, eq-eqb, ne_eqb}
 use Rattle.machine.specs.calls.Judging.{call_number}
 use Rattle.machine.proofs.rules.Rules.{stop, pass, through}
 use Rattle.seen.proofs.Laws.{busy_seen, first-refuses, rest_walk}
-use borrow.Author.Rules.{rules}
 use Rattle.writing.proofs.judge_step.Goals as goal
 
 pub returns-then-not-is_done : goal.returns-then-not-is_done

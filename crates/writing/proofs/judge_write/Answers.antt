@@ -2,14 +2,13 @@
 -- in their order.
 use mathlib.Core.Path.{refl, sym, ap, ◌∙◌}
 use mathlib.Core.Bool.{not}
-use borrow.Author.Tests.{not-true, not-false, eqb-true, le-leb, lt-leb}
+use borrow.Author.Tests.{eqb-true, le-leb, lt-leb}
 use Rattle.format.specs.MapWord.{bad_word, sloppy_word}
 use Rattle.format.proofs.MapWord.{fault_bad, fault_in, fault_sloppy, fault_clean}
 use Rattle.lanes.proofs.Lanes.{map_fit}
 use Rattle.machine.specs.calls.Judging.{call_number}
 use Rattle.machine.proofs.rules.Rules.{stop, pass, through}
 use Rattle.seen.proofs.Laws.{busy_seen, table_fit, flies_seen, first-refuses, rest_walk}
-use borrow.Author.Rules.{rules}
 use Rattle.writing.proofs.judge_write.Goals as goal
 
 pub returns-then-not-is_done : goal.returns-then-not-is_done

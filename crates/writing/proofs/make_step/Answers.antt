@@ -1,6 +1,5 @@
 -- `writing::make_step` meets its contract: the store that `put_store` makes, and the record that `after_store` gives.
 use mathlib.Core.Path.{refl}
-use borrow.Author.Rules.{rules}
 use Rattle.writing.proofs.make_step.Goals as goal
 
 pub returns : goal.returns

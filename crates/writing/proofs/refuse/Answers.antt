@@ -2,7 +2,6 @@
 use mathlib.Core.Path.{ap}
 use Prim.Native.Nat.{ℕ}
 use Rattle.writing.specs.Gave.{refusal}
-use borrow.Author.Rules.{rules}
 use Rattle.writing.proofs.refuse.Goals as goal
 
 pub returns : goal.returns

@@ -1,11 +1,9 @@
 -- `writing::replay_step` meets its contract: what is not refused has figures that fit and a record in range, so its next store is within the
 -- arena, whatever table it was of which that is seen.
 use mathlib.Core.Path.{sym, ◌∙◌}
-use borrow.Author.Tests.{not-true, not-false}
 use Rattle.machine.specs.state.Handle.{with}
 use Rattle.machine.proofs.calls.Running.{handle_fit}
 use Rattle.writing.proofs.Rules.{step_refused, step_passed, step_done, own_fit}
-use borrow.Author.Rules.{rules}
 use Rattle.writing.proofs.replay_step.Goals as goal
 
 pub returns-then-not-is_done : goal.returns-then-not-is_done

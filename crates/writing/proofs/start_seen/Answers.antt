@@ -1,11 +1,9 @@
 -- `writing::start_seen` meets its contract: what is not refused has figures that fit and a lane and a sector in range, so a write can begin
 -- there, whatever table it was of which that is seen.
 use mathlib.Core.Path.{sym, ◌∙◌}
-use borrow.Author.Tests.{not-true, not-false}
 use Rattle.machine.specs.state.Handle.{with}
 use Rattle.machine.proofs.calls.Running.{handle_fit}
 use Rattle.writing.proofs.Rules.{start_refused, start_done, start_passed}
-use borrow.Author.Rules.{rules}
 use Rattle.writing.proofs.start_seen.Goals as goal
 
 pub returns-then-not-is_done : goal.returns-then-not-is_done

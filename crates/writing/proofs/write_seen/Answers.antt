@@ -2,11 +2,9 @@
 -- within the arena; start and all steps give the arena with these stores and the finished record, whatever table it was of which that is seen.
 use mathlib.Core.Path.{refl, sym, ◌∙◌}
 use native.Mathlib.Omega.{arith}
-use borrow.Author.Tests.{not-true, not-false}
 use Rattle.machine.specs.state.Handle.{with}
 use Rattle.machine.proofs.calls.Running.{handle_fit}
 use Rattle.writing.proofs.Whole.{write_refused, write_found_start, write_found_size, begun_fit, write_done}
-use borrow.Author.Rules.{rules}
 use Rattle.writing.proofs.write_seen.Goals as goal
 
 pub returns-then-not-is_done : goal.returns-then-not-is_done
