@@ -4,8 +4,10 @@
 
 ghost use Rattle.std.specs.Prelude.{◌≡◌, length};
 
+use filling::fill;
 use fletcher::{block_checksum, fletcher64_of};
 use infoblock::is_sound;
+use std::io;
 
 // Room for one byte more than the longest run that is not refused.
 fn room() -> [u8; 65537]
@@ -15,29 +17,28 @@ fn room() -> [u8; 65537]
 }
 
 // Writes a checksum and a text.
-fn put(sum: u64, text: &[u8]) {
-    io::print_hex(libc::STDOUT_FILENO, sum, 16);
-    io::write_all(libc::STDOUT_FILENO, text);
+fn put(rt: &impl Print, sum: u64, text: &str) -> io::Result<()> {
+    print!(rt; "{sum:016x}{text}")
 }
 
 // Writes the checksums of a run; one that is too long, or ends within a word, is refused.
-fn put_run(run: &[u8]) {
+fn put_run(rt: &impl Print, run: &[u8]) -> io::Result<()> {
     if run.len() > 65536 || run.len() % 4 != 0 {
-        io::write_all(libc::STDOUT_FILENO, b"refused 1\n");
-        return;
+        return println!(rt; "refused 1");
     }
-    put(fletcher64_of(run, 0, run.len() / 4), b"\n");
+    put(rt, fletcher64_of(run, 0, run.len() / 4), "\n")?;
     if run.len() == 4096 {
         if is_sound(run) {
-            put(block_checksum(run), b" sound\n");
+            put(rt, block_checksum(run), " sound\n")?;
         } else {
-            put(block_checksum(run), b" unsound\n");
+            put(rt, block_checksum(run), " unsound\n")?;
         }
     }
+    Ok(())
 }
 
-fn main() {
+fn main(rt: HostRuntime) -> io::Result<()> {
     let mut input = room();
-    let n = io::read_full(libc::STDIN_FILENO, &mut input);
-    put_run(&input[..n]);
+    let n = fill(&mut rt.stdin(), &mut input);
+    put_run(&rt, &input[..n])
 }
