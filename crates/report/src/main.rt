@@ -6,6 +6,10 @@ ghost use Rattle.std.specs.Prelude.{◌≡◌, length};
 mod claims;
 mod report;
 
+use filling::fill;
+use std::io;
+use std::io::Write;
+
 // Room for one byte more than the longest input that is not refused.
 fn room() -> [u8; 65537]
     ensures { 65537 ≡ length result }
@@ -20,10 +24,10 @@ fn page() -> [u8; 4096]
     [0u8; 4096]
 }
 
-fn main() {
+fn main(rt: HostRuntime) -> io::Result<()> {
     let mut input = room();
-    let n = io::read_full(libc::STDIN_FILENO, &mut input);
+    let n = fill(&mut rt.stdin(), &mut input);
     let mut out = page();
     let k = report::report(&mut input[..n], &mut out);
-    io::write_all(libc::STDOUT_FILENO, &out[..k]);
+    rt.stdout().write_all(&out[..k])
 }

@@ -1,5 +1,5 @@
 // The report on an arena, as text in a lent buffer.
-ghost use Rattle.io.specs.Counts.{IsPrefixLen};
+ghost use Rattle.std.specs.Counts.{IsPrefixLen};
 ghost use Rattle.report.specs.Report.{report_of, Reported};
 
 use arena::open::open;
