@@ -6,7 +6,7 @@ use lib.ListN.{length, take, drop, replicate, length-replicate}
 use lib.Seq.{take_all, take-append_seam}
 use borrow.Author.Tests.{lt-ltb, le-ltb}
 use mathlib.Core.Bool.{false}
-use Rattle.io.specs.Counts.{IsPrefixLen}
+use Rattle.std.specs.Counts.{IsPrefixLen}
 use Rattle.text.specs.Replay.{replay_text}
 use Rattle.text.proofs.Laws.{counted}
 use Rattle.replaying.specs.declared.Replayed.{Replayed}

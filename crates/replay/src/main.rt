@@ -2,10 +2,15 @@
 #![tactic(auto)]
 
 ghost use Rattle.std.specs.Prelude.{◌≡◌, length};
-ghost use Rattle.io.specs.Counts.{IsPrefixLen};
+ghost use Rattle.std.specs.Counts.{IsPrefixLen};
 
 mod claims;
 mod transcript;
+
+use filling::fill;
+use std::io::Write;
+use std::rt::Files;
+use std::{fs, io};
 
 // Room for one byte more than the longest arena that is not refused.
 fn arena_room() -> [u8; 49153]
@@ -29,24 +34,21 @@ fn page() -> [u8; 65536]
 }
 
 // Reads the first bytes of a file, as many as there is room for; a missing file has none.
-fn read_file(name: &[u8], room: &mut [u8]) -> usize
+fn read_file(files: &impl Files, name: &str, room: &mut [u8]) -> usize
     ensures { IsPrefixLen result room.new }
 {
-    let fd = os::open_read(name);
-    if fd < 0 {
-        return 0;
+    match fs::open(files, name) {
+        Ok(mut file) => fill(&mut file, room),
+        Err(_) => 0,
     }
-    let n = io::read_full(fd, room);
-    libc::close(fd);
-    n
 }
 
-fn main() {
+fn main(rt: HostRuntime) -> io::Result<()> {
     let mut arena = arena_room();
-    let n = read_file(b"arena.img", &mut arena);
+    let n = read_file(&rt, "arena.img", &mut arena);
     let mut log = log_room();
-    let m = read_file(b"steps.log", &mut log);
+    let m = read_file(&rt, "steps.log", &mut log);
     let mut out = page();
     let k = transcript::transcript(&mut arena[..n], &log[..m], &mut out);
-    io::write_all(libc::STDOUT_FILENO, &out[..k]);
+    rt.stdout().write_all(&out[..k])
 }

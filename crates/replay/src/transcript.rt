@@ -1,5 +1,5 @@
 // What is written of a replay, as text in a lent buffer.
-ghost use Rattle.io.specs.Counts.{IsPrefixLen};
+ghost use Rattle.std.specs.Counts.{IsPrefixLen};
 ghost use Rattle.replay.specs.Transcript.{transcript_of, Transcribed};
 
 use replaying::replay;
