@@ -4,10 +4,10 @@ import random
 import struct
 import subprocess
 
+import library
 import model
 
 TOP = pathlib.Path(__file__).resolve().parent.parent
-PROGRAM = TOP / "target" / "bin" / "checksum"
 BLOCKS = TOP / "crates" / "cases" / "data"
 LIMIT = 65536
 RANDOM_RUNS = 400
@@ -58,7 +58,7 @@ def text(run, by=model):
 
 def written(run):
     """What the program writes of a run."""
-    return subprocess.run([PROGRAM], input=run, capture_output=True, timeout=60).stdout.decode()
+    return subprocess.run([library.program("checksum")], input=run, capture_output=True, timeout=60).stdout.decode()
 
 
 def check_program():

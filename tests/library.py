@@ -4,6 +4,7 @@ Every call takes bytearrays and changes them in place; LIBRARY_CALLS is the only
 A table that is None is lent as a null pointer with length 0.
 """
 import ctypes
+import functools
 import itertools
 import pathlib
 import struct
@@ -14,7 +15,8 @@ import model
 import runlog
 
 TOP = pathlib.Path(__file__).resolve().parent.parent
-ARCHIVE = TOP / "target" / "staticlib" / "libbtt.a"
+CRATES = TOP / "crates"
+ARCHIVE = CRATES / "btt" / "out" / "libbtt.a"
 SHARED = TOP / "target" / "libbtt.so"
 
 # What a parameter is in C: bytes are a pointer and a length, a table a pointer and the number of its records, a handle or a record a pointer,
@@ -77,23 +79,35 @@ def table_from(data):
     return [calls.Record(*words) for words in RECORD_FORM.iter_unpack(data or b"")]
 
 
-def must(*command):
-    """Runs a command at the top of the repository; it has to end with 0."""
-    done = subprocess.run([str(word) for word in command], cwd=TOP, capture_output=True, text=True)
+def must(*command, folder=TOP):
+    """Runs a command in a folder, with no input; it has to end with 0."""
+    done = subprocess.run([str(word) for word in command], cwd=folder, stdin=subprocess.DEVNULL, capture_output=True, text=True)
     if done.returncode:
         raise SystemExit("tests: %s failed\n%s%s" % (" ".join(str(word) for word in command[:3]), done.stdout, done.stderr))
 
 
+def made(path, *command):
+    """A file that is built in the folder out/ of a crate, made anew by a command if it is missing or older than a source."""
+    sources = CRATES.glob("*/src/**/*.rt")
+    if not path.exists() or any(source.stat().st_mtime > path.stat().st_mtime for source in sources):
+        must(*command, folder=path.parent.parent)
+    return path
+
+
 def archive():
-    """The crate's static library, made anew if it is missing or older than a source."""
-    sources = list((TOP / "crates").glob("*/src/**/*.rt"))
-    if not ARCHIVE.exists() or any(source.stat().st_mtime > ARCHIVE.stat().st_mtime for source in sources):
-        must("rt", "staticlib", "btt")
-    return ARCHIVE
+    """The crate's static library."""
+    return made(ARCHIVE, "rt", "lib")
+
+
+@functools.cache
+def program(name):
+    """The program of a crate."""
+    return made(CRATES / name / "out" / name, "rt", "run")
 
 
 def built():
     """The library, its shared object made anew from the static library."""
+    SHARED.parent.mkdir(exist_ok=True)
     must("gcc", "-shared", "-o", SHARED, "-Wl,--whole-archive", archive(), "-Wl,--no-whole-archive")
     return Library(SHARED)
 

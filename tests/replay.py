@@ -23,7 +23,6 @@ import runlog
 from pair import Difference, figures_of, first_difference
 
 TOP = pathlib.Path(__file__).resolve().parent.parent
-PROGRAM = TOP / "target" / "bin" / "replay"
 AMPLE = 2**15
 CRATE = TOP / "crates" / "replay"
 BY_PROGRAM = 60
@@ -205,7 +204,7 @@ def written(image, log):
     with tempfile.TemporaryDirectory() as folder:
         for name, data in files.items():
             (pathlib.Path(folder) / name).write_bytes(data)
-        done = subprocess.run([PROGRAM], cwd=folder, capture_output=True, timeout=60)
+        done = subprocess.run([library.program("replay")], cwd=folder, capture_output=True, timeout=60)
         left = {path.name: path.read_bytes() for path in pathlib.Path(folder).iterdir()}
     if left != files:
         return "the files are not as they were"

@@ -29,7 +29,6 @@ import sloppy
 import write_back
 
 TOP = pathlib.Path(__file__).resolve().parent.parent
-REPORT = TOP / "target" / "bin" / "report"
 RANDOM = 600
 HISTORIES = 3000
 LOGS = 400
@@ -48,7 +47,7 @@ def check_arena(name, arena):
 
 def check_report(arena):
     """What is wrong with the program's report on these bytes, or nothing."""
-    got = subprocess.run([REPORT], input=arena, capture_output=True, timeout=60).stdout
+    got = subprocess.run([library.program("report")], input=arena, capture_output=True, timeout=60).stdout
     expected = model.report(arena).encode()
     if got != expected:
         return "the report is %r, not %r" % (got, expected)

@@ -1,4 +1,4 @@
-//! Builds the proved library with `rt staticlib btt` at the repository's root and links it.
+//! Builds the proved library with `rt lib` in crates/btt and links it.
 //!
 //! With BTT_STATICLIB_DIR set, the archive libbtt.a in that folder is linked as it is.
 use std::env;
@@ -45,7 +45,7 @@ fn built_folder() -> PathBuf {
     for source in &sources {
         println!("cargo:rerun-if-changed={}", source.display());
     }
-    let folder = root.join("target/staticlib");
+    let folder = root.join("crates/btt/out");
     let newest = sources.iter().filter_map(|source| newest(source).ok()).max();
     let archive = fs::metadata(folder.join("libbtt.a")).and_then(|data| data.modified()).ok();
     if archive.is_none() || archive <= newest {
@@ -54,7 +54,7 @@ fn built_folder() -> PathBuf {
     folder
 }
 
-/// What the archive is built from: the list of crates and the three folders of each. The folder target/ is not among them.
+/// What the archive is built from: the list of crates and the three folders of each. The folder out/ of a crate is not among them.
 fn sources(root: &Path) -> io::Result<Vec<PathBuf>> {
     let mut sources = vec![root.join("crates.txt")];
     for entry in fs::read_dir(root.join("crates"))? {
@@ -79,10 +79,10 @@ fn newest(path: &Path) -> io::Result<SystemTime> {
 
 /// Proves the library and writes its archive. What rt prints is shown only if it fails.
 fn prove(root: &Path) {
-    let done = Command::new("rt").args(["staticlib", "btt"]).current_dir(root).output();
+    let done = Command::new("rt").arg("lib").current_dir(root.join("crates/btt")).output();
     let output = done.unwrap_or_else(|error| give_up(&format!("rt, which builds the proved library, cannot be run: {error}")));
     if !output.status.success() {
         eprintln!("{}{}", String::from_utf8_lossy(&output.stdout), String::from_utf8_lossy(&output.stderr));
-        give_up("rt staticlib btt failed");
+        give_up("rt lib failed in crates/btt");
     }
 }

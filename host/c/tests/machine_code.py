@@ -19,7 +19,7 @@ import re
 import subprocess
 
 TOP = pathlib.Path(__file__).resolve().parents[3]
-ARCHIVE = TOP / "target" / "staticlib" / "libbtt.a"
+ARCHIVE = TOP / "crates" / "btt" / "out" / "libbtt.a"
 HEADER = TOP / "host" / "c" / "btt.h"
 NEEDS = {"memcpy", "memmove", "memset"}
 STORING_CALLS = {"btt_step", "btt_write", "btt_open", "btt_cut_open"}

@@ -1,6 +1,6 @@
 """Builds the C example and the C tests over the library and runs them: one line for each part, and a non-zero end if one fails.
 
-The library is built by `rt staticlib btt` where it is not there or older than a source; the rest takes some seconds.
+The library is built by `rt lib` in crates/btt where it is not there or older than a source; the rest takes some seconds.
 """
 import pathlib
 import subprocess

@@ -116,7 +116,7 @@
 //!
 //! # Building
 //!
-//! The build script runs `rt staticlib btt` at the repository's root, which proves the library and writes its archive. With
+//! The build script runs `rt lib` in the repository's `crates/btt`, which proves the library and writes its archive. With
 //! `BTT_STATICLIB_DIR` set it links the archive `libbtt.a` of that folder instead. The archive is for x86-64.
 #![deny(missing_docs)]
 #![deny(unsafe_op_in_unsafe_fn)]
