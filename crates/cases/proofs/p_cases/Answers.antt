@@ -24,8 +24,7 @@ use Rattle.cases.specs.Table.{case1, case2, case3, case3_refused, case3_bits, ca
 use Rattle.cases.proofs.Lanes.{case_256}
 use Rattle.cases.proofs.Pending.{cases_6_and_7, case_8}
 use Rattle.cases.proofs.Rows.{append}
-use Rattle.cases.proofs.p_cases.Statement.{statement}
-use Rattle.cases.proofs.p_cases.Tie as tie
+use Rattle.cases.proofs.p_cases.Goals as goal
 
 -- cases 1 to 5 are computed, all but the refused word
 computed : AllDue (case1 ++ (case2 ++ (case3 ++ (case3_bits ++ (case4 ++ (case4_turns ++ case5))))))
@@ -85,8 +84,5 @@ all_due =
     (append (case3_refused 16) (case3_refused 32 ++ pendings) (refused 16 (inl refl))
     (append (case3_refused 32) pendings (refused 32 (inr refl)) pendings_due)))))))
 
-returns : tie.Need-returns
-returns c = all_due
-
-pub p-cases-spec : {M : Type 1} → statement M
-p-cases-spec = tie.close (tie.spec returns)
+pub returns : goal.returns
+returns c = record { cases = all_due }
