@@ -20,11 +20,10 @@ use Rattle.btt.proofs.Shown.{
   lane-shown,
   place_told,
 }
-use Rattle.btt.proofs.claims.host.Statement.{statement}
-use Rattle.btt.proofs.claims.host.Tie as tie
+use Rattle.btt.proofs.claims.host.Goals as goal
 
-returns : tie.Need-returns
-returns c = record {
+pub returns : goal.returns
+returns c = record { host = record {
   info_block = info_shown;
   info_place = info_placed;
   opening = opening_same;
@@ -55,7 +54,4 @@ returns c = record {
   next_answers = next-answered;
   lane = lane-shown;
   next_store = place_told;
-}
-
-pub host-spec : {M : Type 1} → statement M
-host-spec = tie.close (tie.spec returns)
+} }

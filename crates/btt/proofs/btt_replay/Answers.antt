@@ -1,0 +1,20 @@
+-- `btt::btt_replay` meets its contract: the counts and the lent bytes are the replay's, and each way out gives its number.
+use borrow.Author.Tests.{eq-eqb, ne_eqb}
+use Rattle.btt.proofs.Replays.{replay_call}
+use borrow.Author.Rules.{rules}
+use Rattle.btt.proofs.btt_replay.Goals as goal
+
+pub returns-then-replayed-ne0 : goal.returns-then-replayed-ne0
+returns-then-replayed-ne0 c =
+    let r = c.replay-replayed in
+    replay_call _ _ _ _ r.result _ _ _ r.ensures _ (rw (ne_eqb _ _ c.if-replayed-ne0.true))
+
+pub returns-then-replayed : goal.returns-then-replayed
+returns-then-replayed c =
+    let r = c.replay-replayed in
+    replay_call _ _ _ _ r.result _ _ _ r.ensures _ (rw (c.number.ensures, eq-eqb _ _ c.if-replayed-ne0.false, c.if-replayed.true))
+
+pub returns : goal.returns
+returns c =
+    let r = c.replay-replayed in
+    replay_call _ _ _ _ r.result _ _ _ r.ensures _ (rw (eq-eqb _ _ c.if-replayed-ne0.false, c.if-replayed.false))
