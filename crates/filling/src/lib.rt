@@ -2,19 +2,34 @@
 #![tactic(auto)]
 
 ghost use Rattle.std.specs.Counts.{IsPrefixLen};
+ghost use Rattle.std.specs.Prelude.{take};
+ghost use Rattle.std.specs.Io.KnownBytes.{Consumes};
 
 use std::io::Read;
 
-// Reads until the room is full, the stream ends or a read fails: how many bytes stand at the start of the room.
+// Reads once: how many bytes stand at the start of the room, none where the read failed.
+fn read_once<R: Read>(stream: &mut R, room: &mut [u8]) -> usize
+    ensures prefix_len { IsPrefixLen result room.new }
+    ensures bytes { Consumes (R.remaining stream.old) (R.remaining stream.new) (take result room.new) }
+{
+    match stream.read(room) {
+        Ok(n) => n,
+        Err(_) => 0,
+    }
+}
+
+// Reads until the room is full, the stream ends or a read fails: how many bytes stand at the start of the room. They are the stream's next ones.
 pub fn fill<R: Read>(stream: &mut R, room: &mut [u8]) -> usize
     ensures prefix_len { IsPrefixLen result room.new }
+    ensures bytes { Consumes (R.remaining stream.old) (R.remaining stream.new) (take result room.new) }
 {
     let mut done = 0;
     while done < room.len() {
-        match stream.read(&mut room[done..]) {
-            Ok(0) | Err(_) => break,
-            Ok(n) => done += n,
+        let n = read_once(stream, &mut room[done..]);
+        if n == 0 {
+            break;
         }
+        done += n;
     }
     done
 }
