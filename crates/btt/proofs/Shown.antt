@@ -26,7 +26,7 @@ use Rattle.machine.specs.declared.lane.Lane.{Lane}
 use Rattle.machine.specs.Rules.{FirstOf}
 use Rattle.machine.specs.state.Handle.{Handle, bare_of, lane_at, laid_out, handle_allowed, table_short, records_allowed}
 use Rattle.machine.specs.calls.Judging.{tests, call_number}
-use Rattle.machine.specs.calls.Order.{Rule, read, start, step, write, number, table_rules}
+use Rattle.machine.specs.calls.Order.{Rule, number, table_rules}
 use Rattle.machine.specs.calls.Reading.{read_of}
 use Rattle.machine.specs.calls.Writing.{Plan, plan_of, store_at, step_number, start_of, step_of, write_of, Outcome}
 use Rattle.machine.specs.words.Running.{HandleOk, Holds}

@@ -4,7 +4,7 @@ use mathlib.Core.List.{List}
 use Prim.Native.Nat.{ℕ, ◌+◌, ◌/◌, ◌%◌, ◌<◌}
 use native.Mathlib.Omega.{arith}
 use native.Mathlib.Nat.{div-add-mod'}
-use lib.ListN.{length, get_or, replicate, length-replicate}
+use lib.ListN.{get_or, replicate, length-replicate}
 use Rattle.words.specs.Word.{word, long, Bytes}
 use Rattle.words.proofs.Runs.{length-put_words, put_words-bytes, word-put_words_in}
 use Rattle.format.proofs.Below.{Below, below_replicate}

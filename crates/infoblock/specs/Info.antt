@@ -1,6 +1,6 @@
 -- The info block: 1,024 words, by word number. Signature 0, identifiers 4 and 8, flags 12, version 13, S 14, E 15, internal size 16,
 -- blocks 17, lanes 18, info size 19, next arena 20, starts of data, map, flog and copy 22, 24, 26, 28, checksum 1,022.
-use Rattle.std.specs.Prelude.{Bool, cond, ◌&&◌, List, [], ◌∷◌, ◌++◌, ℕ, ◌+◌, ◌-◌, ◌/◌, ◌%◌, eqb, length, take, drop, replicate}
+use Rattle.std.specs.Prelude.{Bool, cond, ◌&&◌, List, [], ◌∷◌, ◌++◌, ℕ, ◌-◌, ◌/◌, ◌%◌, eqb, length, take, drop, replicate}
 use Rattle.words.specs.Word.{word, long}
 use Rattle.fletcher.specs.Fletcher.{fletcher64, block_checksum}
 use Rattle.format.specs.Tests.{all_of, every}

@@ -1,5 +1,4 @@
 -- `btt::btt_make` meets its contract: the answer's number, and the arena as making leaves it.
-use borrow.Author.Rules.{rules}
 use Rattle.btt.proofs.btt_make.Goals as goal
 
 pub returns : goal.returns

@@ -1,7 +1,6 @@
 -- `btt::btt_replay` meets its contract: the counts and the lent bytes are the replay's, and each way out gives its number.
 use borrow.Author.Tests.{eq-eqb, ne_eqb}
 use Rattle.btt.proofs.Replays.{replay_call}
-use borrow.Author.Rules.{rules}
 use Rattle.btt.proofs.btt_replay.Goals as goal
 
 pub returns-then-replayed-ne0 : goal.returns-then-replayed-ne0

@@ -1,5 +1,5 @@
 -- `fletcher::block_checksum` meets its contract, by those of the methods that it calls and the law of the last two words.
-use Rattle.std.proofs.Common.{sym, rules}
+use Rattle.std.proofs.Common.{sym}
 use Rattle.fletcher.proofs.Laws.{block_checksum_is}
 use Rattle.fletcher.proofs.block_checksum.Goals as goal
 

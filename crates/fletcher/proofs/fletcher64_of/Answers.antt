@@ -1,6 +1,5 @@
 -- `fletcher::fletcher64_of` meets its contract, by those of the methods that it calls.
 use Rattle.fletcher.specs.Fletcher.{fletcher64}
-use Rattle.std.proofs.Common.{rules}
 use Rattle.fletcher.proofs.fletcher64_of.Goals as goal
 
 pub returns : goal.returns

@@ -1,6 +1,5 @@
 -- `handlebytes::handle_in` meets its contract: its numbers are read one by one.
 use Rattle.handlebytes.specs.Bytes.{decode_handle}
-use borrow.Author.Rules.{rules}
 use Rattle.handlebytes.proofs.handle_in.Goals as goal
 
 pub returns : goal.returns

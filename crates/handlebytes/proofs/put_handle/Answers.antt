@@ -2,7 +2,6 @@
 use mathlib.Core.Path.{sym}
 use Rattle.words.proofs.Runs.{put_words-append}
 use Rattle.handlebytes.specs.Bytes.{start_words, figure_words, handle_words}
-use borrow.Author.Rules.{rules}
 use Rattle.handlebytes.proofs.put_handle.Goals as goal
 
 pub returns : goal.returns

@@ -1,7 +1,6 @@
 -- `handlebytes::put_record` meets its contract: the stores are those of the run of words.
 use Rattle.words.specs.Word.{put_words}
 use Rattle.handlebytes.specs.Bytes.{record_words}
-use borrow.Author.Rules.{rules}
 use Rattle.handlebytes.proofs.put_record.Goals as goal
 
 pub returns : goal.returns

@@ -1,7 +1,6 @@
 -- `handlebytes::put_starts` meets its contract: the stores are those of the run of words.
 use Rattle.words.specs.Word.{put_words, put_long}
 use Rattle.handlebytes.specs.Bytes.{start_words}
-use borrow.Author.Rules.{rules}
 use Rattle.handlebytes.proofs.put_starts.Goals as goal
 
 pub returns : goal.returns

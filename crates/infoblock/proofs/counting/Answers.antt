@@ -1,8 +1,6 @@
 -- `infoblock::counting` meets its contract: what counts, by the number of the block that `which_counts` gave.
-use mathlib.Core.Path.{sym, ap, ◌∙◌}
-use Rattle.infoblock.specs.Info.{counts_number}
+use mathlib.Core.Path.{sym}
 use Rattle.infoblock.proofs.InfoBlock.{counts_as}
-use borrow.Author.Rules.{rules}
 use Rattle.infoblock.proofs.counting.Goals as goal
 
 pub returns-in-Main : goal.returns-in-Main

@@ -1,6 +1,5 @@
 -- `infoblock::figures_of` meets its contract, by what `figures_at` ensures.
 use Rattle.infoblock.specs.Info.{figures_of}
-use borrow.Author.Rules.{rules}
 use Rattle.infoblock.proofs.figures_of.Goals as goal
 
 pub returns : goal.returns

@@ -1,5 +1,4 @@
 -- `infoblock::flags_allowed` meets its contract, by what `word_at` ensures.
-use borrow.Author.Rules.{rules}
 use Rattle.infoblock.proofs.flags_allowed.Goals as goal
 
 pub returns : goal.returns

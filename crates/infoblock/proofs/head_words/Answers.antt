@@ -1,5 +1,4 @@
 -- `infoblock::head_words` meets its contract. Each word is what the call that gave it ensures.
-use borrow.Author.Rules.{rules}
 use Rattle.infoblock.proofs.Stored.{head_is}
 use Rattle.infoblock.proofs.head_words.Goals as goal
 

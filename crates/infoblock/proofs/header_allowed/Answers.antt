@@ -1,7 +1,6 @@
 -- `infoblock::header_allowed` meets its contract. Each return rewrites with the tests that led to it.
 use borrow.Author.Tests.{ne_eqb, eq-eqb}
 use mathlib.Core.Bool.{and-true}
-use borrow.Author.Rules.{rules}
 use Rattle.infoblock.specs.Info.{header_allowed}
 use Rattle.infoblock.proofs.header_allowed.Goals as goal
 

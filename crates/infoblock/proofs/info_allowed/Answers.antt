@@ -1,7 +1,5 @@
 -- `infoblock::info_allowed` meets its contract. Each return rewrites with what the two tests ensure.
-use borrow.Author.Tests.{not-true, not-false}
 use mathlib.Core.Path.{sym, ◌∙◌}
-use borrow.Author.Rules.{rules}
 use Rattle.infoblock.proofs.info_allowed.Goals as goal
 
 pub returns-then-not-header_allowed : goal.returns-then-not-header_allowed

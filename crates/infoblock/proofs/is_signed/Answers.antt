@@ -3,15 +3,11 @@
 use borrow.Author.Tests.{ne_eqb, eq-eqb}
 use borrow.Author.Rules.{rules}
 use native.Mathlib.Omega.{arith}
-use lib.Dec.{eqb}
-use Prim.Native.Nat.{◌≤◌, ◌-◌}
-use mathlib.Core.Bool.{true}
 use mathlib.Core.Path.{◌≡◌, sym, refl, ◌∙◌}
 use Rattle.infoblock.proofs.Signed.{signature-word}
-use Rattle.infoblock.specs.Info.{signature, signed}
+use Rattle.infoblock.specs.Info.{signed}
 use Rattle.format.specs.Tests.{every}
 use Rattle.format.proofs.Tests.{every_more, every_fails}
-use Rattle.words.specs.Word.{word}
 use Rattle.infoblock.proofs.is_signed.Goals as goal
 
 pub loop-k-init : goal.loop-k-init

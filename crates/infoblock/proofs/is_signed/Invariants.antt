@@ -1,16 +1,11 @@
 -- `is_signed` meets its contract. The invariant: every word of the signature before k is right. A wrong word makes the whole test
 -- false.
-use borrow.Author.Tests.{ne_eqb, eq-eqb}
-use borrow.Author.Rules.{rules}
-use native.Mathlib.Omega.{arith}
 use lib.Dec.{eqb}
 use Prim.Native.Nat.{◌≤◌, ◌-◌}
 use mathlib.Core.Bool.{true}
-use mathlib.Core.Path.{◌≡◌, sym, refl, ◌∙◌}
-use Rattle.infoblock.proofs.Signed.{signature-word}
-use Rattle.infoblock.specs.Info.{signature, signed}
+use mathlib.Core.Path.{◌≡◌}
+use Rattle.infoblock.specs.Info.{signature}
 use Rattle.format.specs.Tests.{every}
-use Rattle.format.proofs.Tests.{every_more, every_fails}
 use Rattle.words.specs.Word.{word}
 use Rattle.infoblock.proofs.is_signed.Given as goal
 

@@ -1,7 +1,6 @@
 -- `infoblock::is_sound` meets its contract. Each return rewrites with the tests that led to it.
-use borrow.Author.Tests.{not-true, not-false, eq-eqb, ne_eqb}
+use borrow.Author.Tests.{eq-eqb, ne_eqb}
 use mathlib.Core.Path.{sym, ◌∙◌}
-use borrow.Author.Rules.{rules}
 use Rattle.infoblock.specs.Info.{sound}
 use Rattle.infoblock.proofs.is_sound.Goals as goal
 

@@ -3,7 +3,7 @@ use lib.Seq.{take_all}
 use lib.ListN.{take}
 use borrow.Author.Rules.{rules}
 use native.Mathlib.Omega.{arith}
-use Prim.Native.Nat.{◌≤◌, ◌-◌}
+use Prim.Native.Nat.{◌≤◌}
 use mathlib.Core.Path.{◌≡◌, sym, refl, ◌∙◌}
 use Rattle.infoblock.proofs.Stored.{put_words-take}
 use Rattle.words.proofs.Laws.{length-put_word}

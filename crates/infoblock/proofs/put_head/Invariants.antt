@@ -1,12 +1,7 @@
 -- `infoblock::put_head` meets its contract. The invariant: the first k words are stored.
-use lib.Seq.{take_all}
 use lib.ListN.{take}
-use borrow.Author.Rules.{rules}
-use native.Mathlib.Omega.{arith}
 use Prim.Native.Nat.{◌≤◌, ◌-◌}
-use mathlib.Core.Path.{◌≡◌, sym, refl, ◌∙◌}
-use Rattle.infoblock.proofs.Stored.{put_words-take}
-use Rattle.words.proofs.Laws.{length-put_word}
+use mathlib.Core.Path.{◌≡◌}
 use Rattle.words.specs.Word.{put_words}
 use Rattle.infoblock.proofs.put_head.Given as goal
 

@@ -1,8 +1,7 @@
 -- `infoblock::put_info` meets its contract. The stores one after the other; the words of the head fit 32 bits since they are a u32 array, so the
 -- sums read back are those of the stored words.
 use mir.Syntax.{w32}
-use native.Mathlib.Omega.{arith}
-use borrow.Author.Rules.{rules, elem_Fits}
+use borrow.Author.Rules.{elem_Fits}
 use Rattle.infoblock.proofs.Stored.{info_stored}
 use Rattle.infoblock.proofs.put_info.Goals as goal
 

@@ -1,6 +1,5 @@
 -- `infoblock::which_counts` meets its contract. Each return rewrites with the tests of `is_sound` that led to it.
 use Rattle.infoblock.specs.Info.{counts_of}
-use borrow.Author.Rules.{rules}
 use Rattle.infoblock.proofs.which_counts.Goals as goal
 
 pub returns-then-is_sound : goal.returns-then-is_sound

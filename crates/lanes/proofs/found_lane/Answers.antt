@@ -1,6 +1,5 @@
 -- `lanes::found_lane` meets its contract: each field of the record is rewritten by what the calls ensure.
 use native.Mathlib.Omega.{arith}
-use borrow.Author.Rules.{rules}
 use Rattle.lanes.proofs.Lanes.{old_is, sequence_is, reads, has_half}
 use Rattle.lanes.proofs.found_lane.Goals as goal
 

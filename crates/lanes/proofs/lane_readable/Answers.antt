@@ -1,6 +1,5 @@
 -- `lanes::lane_readable` meets its contract: one law for each test that fails, and one for what the last test decides.
 use mathlib.Core.Path.{sym}
-use borrow.Author.Rules.{rules}
 use Rattle.lanes.proofs.Lanes.{far_sector, far_old, all_but_new, no_newer}
 use Rattle.lanes.proofs.lane_readable.Goals as goal
 

@@ -1,6 +1,5 @@
 -- `lanes::map_block` meets its contract by those of `map_word` and `block_of`.
 use mathlib.Core.Path.{ap, ◌∙◌}
-use borrow.Author.Rules.{rules}
 use Rattle.format.specs.MapWord.{block_of}
 use Rattle.lanes.proofs.map_block.Goals as goal
 

@@ -1,7 +1,6 @@
 -- `lanes::map_word` meets its contract: the map place of a sector lies within an arena that fits.
 use mathlib.Core.Path.{ap, ◌∙◌}
 use native.Mathlib.Omega.{arith}
-use borrow.Author.Rules.{rules}
 use Rattle.words.specs.Word.{word}
 use Rattle.layout.specs.Place.{layout_of}
 use Rattle.lanes.proofs.map_word.Goals as goal

@@ -1,7 +1,6 @@
 -- `lanes::newer_flog` meets its contract: the newer half lies within the arena, and its four words are the record's.
 use mathlib.Core.Path.{◌∙◌}
 use native.Mathlib.Omega.{arith}
-use borrow.Author.Rules.{rules}
 use Rattle.machine.specs.state.Flog.{newer_flog}
 use Rattle.lanes.proofs.Lanes.{half_inside}
 use Rattle.lanes.proofs.newer_flog.Goals as goal

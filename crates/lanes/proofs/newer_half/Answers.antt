@@ -1,8 +1,6 @@
 -- `lanes::newer_half` meets its contract: the pair at a lane's first word is the lane's, and each arm knows its variant.
-use mathlib.Core.Path.{sym, ap, ◌∙◌}
+use mathlib.Core.Path.{◌∙◌}
 use native.Mathlib.Omega.{arith}
-use borrow.Author.Rules.{rules}
-use Rattle.format.specs.Sequence.{half_of}
 use Rattle.lanes.proofs.Lanes.{pair_inside, pair_newer}
 use Rattle.lanes.proofs.newer_half.Goals as goal
 

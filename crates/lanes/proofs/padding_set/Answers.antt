@@ -1,21 +1,13 @@
 -- `lanes::padding_set` meets its contract. The invariant: no word passed is padding that is not zero.
-use mathlib.Core.Bool.{Bool, false, not, ◌&&◌}
-use mathlib.Core.Logic.{⊎_elim}
-use mathlib.Core.List.{List}
-use mathlib.Core.Path.{◌≡◌, sym, ap, ◌∙◌}
-use Prim.Native.Nat.{ℕ, ◌-◌, ◌≤◌}
+use mathlib.Core.Path.{sym, ap, ◌∙◌}
 use native.Mathlib.Nat.{le_antisymm}
-use lib.Dec.{eqb}
 use borrow.Author.Tests.{eq-eqb, ne_eqb}
 use borrow.Author.Rules.{rules}
 use Rattle.words.specs.Word.{word}
-use Rattle.format.specs.Tests.{some}
 use Rattle.format.proofs.Tests.{some_zero, some_more, some-found}
-use Rattle.layout.specs.Place.{layout_of, is_padding}
-use Rattle.layout.specs.declared.Figures.{Figures}
-use Rattle.machine.specs.state.Flog.{lane_word, padding_set}
+use Rattle.layout.specs.Place.{layout_of}
+use Rattle.machine.specs.state.Flog.{padding_set}
 use Rattle.lanes.proofs.Lanes.{lane_inside}
-use Rattle.lanes.proofs.padding_set.Invariants.{set}
 use Rattle.lanes.proofs.padding_set.Goals as goal
 use Rattle.lanes.proofs.padding_set.Goals.{then-is_padding+else-word_at-ne0, else-is_padding}
 
@@ -35,17 +27,16 @@ returns-then-word_at-ne0 c =
 
 pub loop-k-preserved : goal.loop-k-preserved
 unfolding layout_of
-loop-k-preserved c =
-    (
-      search rules,
-      some_more _ _ c.loop-k.invariant.1
-          (elim c.if-is_padding.branch [
-            then-is_padding+else-word_at-ne0 w ↦
-              let x = w.word_at.ensures ∙ ap (word c.args.a.now) (w.lane_place.ensures c.args.d) in
-              rw (← c.is_padding.ensures, w.if-is_padding.true, eq-eqb _ 0 (sym x ∙ w.if-word_at-ne0.false))
-          | else-is_padding w ↦ rw (← c.is_padding.ensures, w.if-is_padding.false)
-          ]),
-    )
+loop-k-preserved c = (
+  search rules,
+  some_more _ _ c.loop-k.invariant.1
+      (elim c.if-is_padding.branch [
+        | then-is_padding+else-word_at-ne0 w ↦
+            let x = w.word_at.ensures ∙ ap (word c.args.a.now) (w.lane_place.ensures c.args.d) in
+            rw (← c.is_padding.ensures, w.if-is_padding.true, eq-eqb _ 0 (sym x ∙ w.if-word_at-ne0.false))
+        | else-is_padding w ↦ rw (← c.is_padding.ensures, w.if-is_padding.false)
+      ]),
+)
 
 pub returns : goal.returns
 unfolding padding_set layout_of

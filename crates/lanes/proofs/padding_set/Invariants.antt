@@ -1,20 +1,13 @@
 -- `lanes::padding_set` meets its contract. The invariant: no word passed is padding that is not zero.
 use mathlib.Core.Bool.{Bool, false, not, ◌&&◌}
-use mathlib.Core.Logic.{⊎_elim}
 use mathlib.Core.List.{List}
-use mathlib.Core.Path.{◌≡◌, sym, ap, ◌∙◌}
+use mathlib.Core.Path.{◌≡◌}
 use Prim.Native.Nat.{ℕ, ◌-◌, ◌≤◌}
-use native.Mathlib.Nat.{le_antisymm}
 use lib.Dec.{eqb}
-use borrow.Author.Tests.{eq-eqb, ne_eqb}
-use borrow.Author.Rules.{rules}
-use Rattle.words.specs.Word.{word}
 use Rattle.format.specs.Tests.{some}
-use Rattle.format.proofs.Tests.{some_zero, some_more, some-found}
 use Rattle.layout.specs.Place.{layout_of, is_padding}
 use Rattle.layout.specs.declared.Figures.{Figures}
-use Rattle.machine.specs.state.Flog.{lane_word, padding_set}
-use Rattle.lanes.proofs.Lanes.{lane_inside}
+use Rattle.machine.specs.state.Flog.{lane_word}
 use Rattle.lanes.proofs.padding_set.Given as goal
 
 -- word k of lane l is padding and not zero

@@ -1,5 +1,4 @@
 -- `lanes::spare_block` meets its contract: the new block of a pending lane, else the old one.
-use borrow.Author.Rules.{rules}
 use Rattle.machine.specs.state.Flog.{spare_of}
 use Rattle.lanes.proofs.Lanes.{old_is, new_is, has_half}
 use Rattle.lanes.proofs.spare_block.Goals as goal

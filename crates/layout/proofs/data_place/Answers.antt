@@ -5,7 +5,6 @@ use native.Mathlib.Omega.{arith}
 use Rattle.layout.specs.Place.{layout_of}
 use Rattle.layout.specs.declared.Figures.{Figures}
 use Rattle.layout.proofs.Bounds.{product}
-use borrow.Author.Rules.{rules}
 use Rattle.layout.proofs.data_place.Goals as goal
 
 -- a block's words, and the words before a block, are few enough

@@ -1,8 +1,6 @@
 -- `layout::figures_allowed` meets its contract. Each return is one law of the figures, by the tests that led to it.
 use mathlib.Core.Path.{sym, ◌∙◌}
-use borrow.Author.Tests.{not-true, not-false}
 use Rattle.layout.proofs.Bounds.{size_wrong, internal_wrong, counts_wrong, blocks_wrong, starts_wrong, figures_right}
-use borrow.Author.Rules.{rules}
 use Rattle.layout.proofs.figures_allowed.Goals as goal
 
 pub returns-then-internal-eq0 : goal.returns-then-internal-eq0

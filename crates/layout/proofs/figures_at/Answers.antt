@@ -1,6 +1,5 @@
 -- `layout::figures_at` meets its contract. Each figure is what `word_at` and `long_at` ensure.
 use Rattle.layout.specs.Figures.{figures_at}
-use borrow.Author.Rules.{rules}
 use Rattle.layout.proofs.figures_at.Goals as goal
 
 pub returns : goal.returns

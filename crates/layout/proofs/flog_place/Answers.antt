@@ -1,10 +1,6 @@
 -- `layout::flog_place` meets its contract. The sum is the place as the layout gives it; no product of so small numbers wraps.
 use mathlib.Core.Path.{refl}
-use Prim.Native.Nat.{◌/◌}
-use native.Mathlib.Omega.{arith}
 use Rattle.layout.specs.Place.{layout_of}
-use Rattle.layout.proofs.Bounds.{product}
-use borrow.Author.Rules.{rules}
 use Rattle.layout.proofs.flog_place.Goals as goal
 
 pub returns : goal.returns

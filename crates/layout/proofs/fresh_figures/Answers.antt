@@ -4,7 +4,6 @@ use native.Mathlib.Omega.{arith}
 use Rattle.layout.specs.Figures.{fresh_figures}
 use Rattle.layout.specs.Sizes.{internal_of}
 use Rattle.layout.proofs.Bounds.{parts_small}
-use borrow.Author.Rules.{rules}
 use Rattle.layout.proofs.fresh_figures.Goals as goal
 
 pub overflow_add-blocks : goal.overflow_add-blocks

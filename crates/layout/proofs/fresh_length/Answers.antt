@@ -2,7 +2,6 @@
 use native.Mathlib.Omega.{arith}
 use Rattle.layout.specs.Figures.{fresh_length}
 use Rattle.layout.proofs.Bounds.{data_small, sizes_small}
-use borrow.Author.Rules.{rules}
 use Rattle.layout.proofs.fresh_length.Goals as goal
 
 pub overflow_mul-blocks : goal.overflow_mul-blocks

@@ -1,6 +1,5 @@
 -- `layout::is_padding` meets its contract. Each return rewrites with the tests that led to it.
 use borrow.Author.Tests.{lt-leb, le-leb, lt-ltb, le-ltb}
-use borrow.Author.Rules.{rules}
 use Rattle.layout.proofs.is_padding.Goals as goal
 
 pub returns-then-k-lt-HALF_WORDS : goal.returns-then-k-lt-HALF_WORDS

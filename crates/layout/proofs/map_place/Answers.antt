@@ -1,7 +1,6 @@
 -- `layout::map_place` meets its contract. The sum is the place as the layout gives it.
 use mathlib.Core.Path.{refl}
 use Rattle.layout.specs.Place.{layout_of}
-use borrow.Author.Rules.{rules}
 use Rattle.layout.proofs.map_place.Goals as goal
 
 pub returns : goal.returns

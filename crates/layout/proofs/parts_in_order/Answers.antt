@@ -2,8 +2,7 @@
 -- each start is below 16,777,216, so that no sum wraps.
 use native.Mathlib.Omega.{arith}
 use mathlib.Core.Path.{sym}
-use Rattle.layout.proofs.Bounds.{product, copy_wrong, flog_late, map_late, data_late, in_order}
-use borrow.Author.Rules.{rules}
+use Rattle.layout.proofs.Bounds.{copy_wrong, flog_late, map_late, data_late, in_order}
 use Rattle.layout.proofs.parts_in_order.Goals as goal
 
 pub returns-then-f-length : goal.returns-then-f-length

@@ -1,5 +1,4 @@
 -- `layout::sizes_allowed` meets its contract: a size is allowed if the table has it.
-use borrow.Author.Rules.{rules}
 use borrow.Author.Tests.{eq-eqb, ne_eqb}
 use Rattle.layout.proofs.sizes_allowed.Goals as goal
 

@@ -35,7 +35,7 @@ use Rattle.machine.specs.calls.Making.{
   fresh_arena,
   data_end,
 }
-use Rattle.machine.specs.calls.Opening.{layout_in, open_of, mended, Room, extent_of}
+use Rattle.machine.specs.calls.Opening.{layout_in, open_of, Room, extent_of}
 use Rattle.layout.specs.Claims.{Distance}
 use Rattle.machine.specs.words.Valid.{HoldsMake, AnswersMake}
 use Rattle.machine.specs.claims.Making.{WantedOk, FreshLane, FreshBytes, FreshOpens, FreshArena, smallest, MakingClaim, FreshRoom}

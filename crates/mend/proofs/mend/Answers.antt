@@ -1,7 +1,7 @@
 -- `mend::mend` meets its contract. The loop's invariant: the arena is the one found with the first k stores of the lanes passed, and the
 -- count is their pending ones.
 use mathlib.Core.Path.{◌≡◌, sym, ap, ◌∙◌, subst}
-use Prim.Native.Nat.{◌-◌, ◌≤◌, ◌<◌}
+use Prim.Native.Nat.{◌<◌}
 use native.Mathlib.Omega.{arith}
 use lib.ListN.{length}
 use Rattle.layout.specs.Fit.{Fit}

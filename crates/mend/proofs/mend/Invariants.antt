@@ -1,13 +1,10 @@
 -- `mend::mend` meets its contract. The loop's invariant: the arena is the one found with the first k stores of the lanes passed, and the
 -- count is their pending ones.
-use mathlib.Core.Path.{◌≡◌, sym, ap, ◌∙◌, subst}
-use Prim.Native.Nat.{◌-◌, ◌≤◌, ◌<◌}
-use native.Mathlib.Omega.{arith}
-use lib.ListN.{length}
-use Rattle.layout.specs.Fit.{Fit}
+use mathlib.Core.Path.{◌≡◌}
+use Prim.Native.Nat.{◌-◌, ◌≤◌}
 use Rattle.layout.specs.Place.{layout_of}
 use Rattle.machine.specs.calls.Opening.{pending_lanes}
-use Rattle.mend.proofs.Mending.{mendable_consistent, part, part_none, part_length, part_readable, pending-none, turn}
+use Rattle.mend.proofs.Mending.{part}
 use Rattle.mend.proofs.mend.Given as goal
 
 abbrev pub invariant-loop-l : goal.invariant-loop-l

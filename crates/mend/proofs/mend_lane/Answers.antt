@@ -2,7 +2,6 @@
 use mathlib.Core.Path.{◌∙◌}
 use Prim.Native.Nat.{◌<◌}
 use native.Mathlib.Omega.{arith}
-use borrow.Author.Rules.{rules}
 use Rattle.layout.specs.Place.{layout_of}
 use Rattle.lanes.proofs.Lanes.{map_fit, sector_is, old_is, new_is, reads, has_half, newer_words}
 use Rattle.mend.proofs.mend_lane.Goals as goal

@@ -1,9 +1,8 @@
 -- `mend::mend_next` meets its contract: one law for each way out.
 use Rattle.mend.proofs.Mending.{count_none, count_one, turn_none, turn_full, turn_store}
 use Rattle.layout.specs.Place.{layout_of}
-use borrow.Author.Tests.{not-true, not-false, le-ltb, lt-ltb}
+use borrow.Author.Tests.{le-ltb, lt-ltb}
 use mathlib.Core.Path.{sym, ◌∙◌}
-use borrow.Author.Rules.{rules}
 use Rattle.mend.proofs.mend_next.Goals as goal
 
 pub returns-then-not-is_pending : goal.returns-then-not-is_pending

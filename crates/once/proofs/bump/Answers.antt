@@ -1,6 +1,5 @@
 -- `once::bump` meets its contract: the test picks the byte.
 use borrow.Author.Tests.{eq-eqb, ne_eqb}
-use borrow.Author.Rules.{rules}
 use Rattle.once.specs.Once.{bumped}
 use Rattle.once.proofs.bump.Goals as goal
 

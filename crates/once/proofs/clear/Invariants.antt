@@ -1,12 +1,8 @@
 -- `once::clear` meets its contract. The invariant: zeroes so far, and the rest as it was.
 use mathlib.Core.List.{◌++◌}
-use mathlib.Core.Path.{◌≡◌, ap}
-use Prim.Native.Nat.{◌-◌, ◌≤◌, ◌<◌}
-use native.Mathlib.Nat.{le_antisymm}
-use native.Mathlib.Omega.{arith}
-use lib.ListN.{length, drop, replicate, length-append, length-replicate, length-drop}
-use borrow.Author.Fill.{fill_none, fill_more}
-use borrow.Author.Rules.{rules}
+use mathlib.Core.Path.{◌≡◌}
+use Prim.Native.Nat.{◌-◌, ◌≤◌}
+use lib.ListN.{drop, replicate}
 use Rattle.once.proofs.clear.Given as goal
 
 abbrev pub invariant-loop-i : goal.invariant-loop-i

@@ -1,14 +1,8 @@
 -- `once::count_lanes` meets its contract. The invariant: the blocks of the lanes passed are counted.
-use mathlib.Core.Path.{◌≡◌, ap, ◌∙◌}
+use mathlib.Core.Path.{◌≡◌}
 use Prim.Native.Nat.{◌-◌, ◌≤◌}
-use native.Mathlib.Nat.{le_antisymm}
-use lib.ListN.{length}
-use borrow.Author.Rules.{rules}
 use Rattle.layout.specs.Place.{layout_of}
-use Rattle.lanes.proofs.Lanes.{lane_fit}
 use Rattle.once.specs.Once.{counted, lane_block}
-use Rattle.once.proofs.Blocks.{lane_under}
-use Rattle.once.proofs.Counts.{counted_none, counted_more, count_inside, length-counted}
 use Rattle.once.proofs.count_lanes.Given as goal
 
 abbrev pub invariant-loop-l : goal.invariant-loop-l

@@ -1,13 +1,9 @@
 -- `once::count_mapped` meets its contract. The invariant: the blocks of the sectors passed are counted.
-use mathlib.Core.Path.{◌≡◌, ap, ◌∙◌}
+use mathlib.Core.Path.{◌≡◌}
 use Prim.Native.Nat.{ℕ, ◌-◌, ◌≤◌}
-use native.Mathlib.Nat.{le_antisymm}
-use lib.ListN.{length}
-use borrow.Author.Rules.{rules}
 use Rattle.layout.specs.Place.{layout_of}
 use Rattle.machine.specs.state.Flog.{map_block}
 use Rattle.once.specs.Once.{counted}
-use Rattle.once.proofs.Counts.{counted_none, counted_more, count_inside, length-counted}
 use Rattle.once.proofs.count_mapped.Given as goal
 
 abbrev pub invariant-loop-s : goal.invariant-loop-s

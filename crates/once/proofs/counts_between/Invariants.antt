@@ -1,11 +1,7 @@
 -- `once::counts_between` meets its contract. The invariant: all tells whether the bytes passed are from low to high.
-use mathlib.Core.Logic.{⊎_elim}
-use mathlib.Core.Path.{◌≡◌, ◌∙◌}
+use mathlib.Core.Path.{◌≡◌}
 use Prim.Native.Nat.{◌-◌, ◌≤◌}
-use native.Mathlib.Nat.{le_antisymm}
-use borrow.Author.Rules.{rules}
 use Rattle.once.specs.Once.{counts_between}
-use Rattle.once.proofs.Counts.{between_none, count_low, count_high, between_more}
 use Rattle.once.proofs.counts_between.Given as goal
 
 abbrev pub invariant-loop-b : goal.invariant-loop-b

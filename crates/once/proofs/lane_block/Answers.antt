@@ -1,5 +1,4 @@
 -- `once::lane_block` meets its contract: the flag picks the block.
-use borrow.Author.Rules.{rules}
 use Rattle.once.proofs.lane_block.Goals as goal
 
 pub returns-then-spare : goal.returns-then-spare

@@ -1,7 +1,6 @@
 -- `stores::put_store` meets its contract: the store is within the arena, and its place and word are those worked out.
 use Rattle.stores.proofs.Plans.{store_inside}
 use mathlib.Core.Path.{◌∙◌}
-use borrow.Author.Rules.{rules}
 use Rattle.stores.proofs.put_store.Goals as goal
 
 pub put_word-requires : goal.put_word-requires

@@ -1,23 +1,11 @@
 -- `stores::put_stores` meets its contract. Both loops keep the same: the arena is the one lent with the write's first k stores.
 -- The measure is what is left of a loop's stores.
-use Rattle.machine.proofs.stores.Kinds.{first_more}
-use Rattle.stores.proofs.Plans.{fit_at}
-use Rattle.layout.specs.Fit.{Fit}
-use Rattle.layout.specs.Place.{layout_of}
 use Rattle.layout.specs.declared.Figures.{Figures}
-use Rattle.machine.specs.state.Lane.{write_stores}
-use Rattle.machine.specs.state.Stores.{stored, put_all}
-use Rattle.machine.specs.calls.Writing.{plan_of, store_at, first_stores}
 use Rattle.machine.specs.declared.lane.Lane.{Lane}
-use Rattle.machine.proofs.stores.Stores.{put_all-length}
-use Rattle.stores.specs.Record.{with_stores, RecordFit}
-use lib.ListN.{length}
+use Rattle.stores.specs.Record.{with_stores}
 use mathlib.Core.List.{List}
-use native.Mathlib.Numerals.{add-one}
-use native.Mathlib.Omega.{arith}
-use Prim.Native.Nat.{ℕ, ◌+◌, ◌-◌, ◌/◌, ◌≤◌, ◌<◌}
-use mathlib.Core.Path.{◌≡◌, refl, sym, ap, ◌∙◌, subst}
-use borrow.Author.Rules.{rules}
+use Prim.Native.Nat.{ℕ, ◌-◌, ◌≤◌}
+use mathlib.Core.Path.{◌≡◌}
 use Rattle.stores.proofs.put_stores.Given as goal
 
 -- a loop that began with the first j stores of any arena has arena b with the first k

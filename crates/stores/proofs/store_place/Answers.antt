@@ -4,7 +4,6 @@ use Rattle.machine.specs.calls.Writing.{plan_of}
 use Rattle.machine.specs.state.Stores.{Store}
 use Rattle.layout.specs.Place.{layout_of, at}
 use mathlib.Core.Path.{ap, ◌∙◌}
-use borrow.Author.Rules.{rules}
 use Rattle.stores.proofs.store_place.Goals as goal
 
 pub returns-then-k-words : goal.returns-then-k-words

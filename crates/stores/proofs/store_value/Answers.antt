@@ -3,7 +3,6 @@ use Rattle.stores.proofs.Plans.{store_data, store_nth, store_map, past_three}
 use Rattle.machine.specs.calls.Writing.{plan_of}
 use Rattle.machine.specs.state.Stores.{Store}
 use mathlib.Core.Path.{ap, ◌∙◌}
-use borrow.Author.Rules.{rules}
 use Rattle.stores.proofs.store_value.Goals as goal
 
 pub returns-then-k-words : goal.returns-then-k-words

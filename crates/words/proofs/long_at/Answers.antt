@@ -1,6 +1,5 @@
 -- `words::long_at` meets its contract, by those of `word_at` and `join`.
 use Rattle.words.specs.Word.{long}
-use borrow.Author.Rules.{rules}
 use Rattle.words.proofs.long_at.Goals as goal
 
 pub returns : goal.returns

@@ -1,6 +1,5 @@
 -- `words::put_long` meets its contract: the two stores are those of `put_long`.
 use Rattle.words.specs.Word.{put_long}
-use borrow.Author.Rules.{rules}
 use Rattle.words.proofs.put_long.Goals as goal
 
 pub returns : goal.returns

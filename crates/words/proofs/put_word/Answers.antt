@@ -3,7 +3,6 @@ use Rattle.words.specs.Word.{put_word}
 use mathlib.Core.Path.{refl}
 use lib.ListN.{length-set}
 use native.Mathlib.Omega.{arith}
-use borrow.Author.Rules.{rules}
 use Rattle.words.proofs.put_word.Goals as goal
 
 pub bounds-a-at-2 : goal.bounds-a-at-2

@@ -1,8 +1,7 @@
 -- `words::zero_words` meets its contract. The loop's invariant: k zero words are stored. The measure is what is left of n.
 use native.Mathlib.Nat.{le_antisymm}
-use lib.ListN.{length, replicate}
-use Prim.Native.Nat.{◌-◌, ◌≤◌}
-use mathlib.Core.Path.{◌≡◌, refl, sym, ap, ◌∙◌}
+use lib.ListN.{length}
+use mathlib.Core.Path.{refl, sym, ap}
 use borrow.Author.Rules.{rules}
 use native.Mathlib.Omega.{arith}
 use Rattle.words.proofs.Runs.{put_words-zeros, length-put_words}

@@ -1,5 +1,4 @@
 -- `arena::open::cut_open` meets its contract: it is told what an arena by itself is.
-use borrow.Author.Rules.{rules}
 use Rattle.arena.proofs.open.cut_open.Goals as goal
 
 pub returns : goal.returns

@@ -1,7 +1,5 @@
 -- `arena::open::judge_and_mend` meets its contract: a refusal stores nothing, and an accepted arena can be mended.
 use mathlib.Core.Path.{sym, ◌∙◌}
-use borrow.Author.Tests.{not-true, not-false}
-use borrow.Author.Rules.{rules}
 use Rattle.arena.proofs.Cut.{cut-refused, cut_done}
 use Rattle.arena.proofs.Opened.{figures_are, mendable}
 use Rattle.arena.proofs.open.judge_and_mend.Goals as goal

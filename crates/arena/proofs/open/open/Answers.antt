@@ -1,10 +1,8 @@
 -- `arena::open::open` meets its contract: its result is that of the cut opening with every store made, and the handle; on a refusal that has
 -- no lanes.
-use denote.Slice.{shr_slice_at}
 use mathlib.Core.Path.{refl}
 use native.Mathlib.Omega.{arith}
 use borrow.Author.Tests.{eq-eqb, ne_eqb}
-use borrow.Author.Rules.{rules}
 use Rattle.words.specs.Bytes.{Small}
 use Rattle.arena.proofs.Opened.{refuses, readable, accepts}
 use Rattle.arena.proofs.open.open.Goals as goal

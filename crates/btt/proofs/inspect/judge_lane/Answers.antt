@@ -1,10 +1,9 @@
 -- `btt::inspect::judge_lane` meets its contract: the first rules are judged by what was seen, and then the lane.
 use mathlib.Core.Path.{refl, sym, ◌∙◌}
-use borrow.Author.Tests.{not-true, not-false, eqb-true, le-leb, lt-leb}
+use borrow.Author.Tests.{eqb-true, le-leb, lt-leb}
 use Rattle.machine.proofs.rules.Rules.{stop, pass, through}
 use Rattle.seen.proofs.Laws.{first-refuses, rest_walk}
 use Rattle.btt.specs.Calls.{lane_number}
-use borrow.Author.Rules.{rules}
 use Rattle.btt.proofs.inspect.judge_lane.Goals as goal
 
 pub returns-then-not-is_done : goal.returns-then-not-is_done

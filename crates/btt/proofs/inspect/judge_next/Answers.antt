@@ -1,10 +1,9 @@
 -- `btt::inspect::judge_next` meets its contract: its order begins with that of a look at the lane's record, and then the lane is busy or not.
 use mathlib.Core.Path.{sym, ap, ◌∙◌}
 use mathlib.Core.Bool.{not}
-use borrow.Author.Tests.{not-true, not-false, eqb-true}
+use borrow.Author.Tests.{eqb-true}
 use Rattle.seen.proofs.Laws.{busy_seen}
 use Rattle.btt.proofs.Looks.{lane_first, lane-idle, lane-flies}
-use borrow.Author.Rules.{rules}
 use Rattle.btt.proofs.inspect.judge_next.Goals as goal
 
 pub returns-then-not-is_done : goal.returns-then-not-is_done

@@ -1,10 +1,8 @@
 -- `btt::inspect::show_lane` meets its contract: a refused look leaves the bytes, and an accepted one puts the lane's own record there.
 use mathlib.Core.Path.{sym, ◌∙◌}
-use borrow.Author.Tests.{not-true, not-false}
 use Rattle.seen.proofs.Laws.{seen_own}
 use Rattle.btt.proofs.Looks.{lane-shown}
 use Rattle.btt.specs.Calls.{lane_shown}
-use borrow.Author.Rules.{rules}
 use Rattle.btt.proofs.inspect.show_lane.Goals as goal
 
 pub returns-then-not-is_done : goal.returns-then-not-is_done

@@ -3,7 +3,6 @@ use mathlib.Core.Path.{refl}
 use borrow.Author.Tests.{eq-eqb, ne_eqb}
 use Rattle.handlebytes.specs.Bytes.{encode_handle}
 use Rattle.btt.specs.Calls.{given_bytes}
-use borrow.Author.Rules.{rules}
 use Rattle.btt.proofs.opening.give.Goals as goal
 
 pub returns-then-opened-ne0 : goal.returns-then-opened-ne0

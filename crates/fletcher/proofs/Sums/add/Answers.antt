@@ -1,6 +1,5 @@
 -- `fletcher::Sums::add` meets its contract, by that of `wrapping_add_u32`, used twice.
 use Rattle.fletcher.specs.Fletcher.{added}
-use Rattle.std.proofs.Common.{rules}
 use Rattle.fletcher.proofs.Sums.add.Goals as goal
 
 pub returns : goal.returns

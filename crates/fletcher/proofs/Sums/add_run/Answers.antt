@@ -1,7 +1,6 @@
 -- `fletcher::Sums::add_run` meets its contract. The number of words may be brought below 2^32 before low is taken so often.
-use Rattle.std.proofs.Common.{arith, rules}
 use Rattle.fletcher.specs.Columns.{joined_run}
-use Rattle.fletcher.proofs.Turns.{product_fits, often}
+use Rattle.fletcher.proofs.Turns.{often}
 use Rattle.fletcher.proofs.Sums.add_run.Goals as goal
 
 pub returns : goal.returns

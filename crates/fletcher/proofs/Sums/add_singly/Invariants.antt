@@ -1,8 +1,7 @@
 -- `fletcher::Sums::add_singly` meets its contract. The loop's invariant: the sums are those with k words more. The measure is what is left of n.
-use Rattle.std.proofs.Common.{◌≡◌, ◌-◌, ◌≤◌, sym, refl, le_antisymm, rules}
+use Rattle.std.proofs.Common.{◌≡◌, ◌-◌, ◌≤◌}
 use Rattle.words.specs.Word.{words_from}
 use Rattle.fletcher.specs.Fletcher.{added_all}
-use Rattle.fletcher.proofs.Laws.{added_all_from}
 use Rattle.fletcher.proofs.Sums.add_singly.Given as goal
 
 abbrev pub invariant-loop-k : goal.invariant-loop-k

@@ -1,5 +1,5 @@
 -- `fletcher::columns::eight_words` meets its contract. The invariant: the first j are stored. The measure is what is left of 8.
-use Rattle.std.proofs.Common.{◌≡◌, ◌-◌, ◌≤◌, length, take, sym, refl, ◌∙◌, arith, length-set, rules}
+use Rattle.std.proofs.Common.{sym, refl, ◌∙◌, arith, length-set, rules}
 use Rattle.words.specs.Word.{words_from}
 use Rattle.words.proofs.Runs.{length-words_from, get_d_words_from}
 use Rattle.fletcher.proofs.Rows.{stored_next, all_stored}

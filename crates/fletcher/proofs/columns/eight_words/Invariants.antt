@@ -1,8 +1,6 @@
 -- `fletcher::columns::eight_words` meets its contract. The invariant: the first j are stored. The measure is what is left of 8.
-use Rattle.std.proofs.Common.{◌≡◌, ◌-◌, ◌≤◌, length, take, sym, refl, ◌∙◌, arith, length-set, rules}
+use Rattle.std.proofs.Common.{◌≡◌, ◌-◌, ◌≤◌, length, take}
 use Rattle.words.specs.Word.{words_from}
-use Rattle.words.proofs.Runs.{length-words_from, get_d_words_from}
-use Rattle.fletcher.proofs.Rows.{stored_next, all_stored}
 use Rattle.fletcher.proofs.columns.eight_words.Given as goal
 
 abbrev pub invariant-loop-j : goal.invariant-loop-j

@@ -1,7 +1,6 @@
 -- `fletcher::columns::plus_row` meets its contract. The invariant: the first j columns are stored. The measure is what is left of 8.
-use Rattle.std.proofs.Common.{◌≡◌, ◌-◌, ◌≤◌, length, take, sym, refl, ◌∙◌, arith, length-set, rules}
+use Rattle.std.proofs.Common.{◌≡◌, ◌-◌, ◌≤◌, length, take}
 use Rattle.fletcher.specs.Columns.{plus}
-use Rattle.fletcher.proofs.Rows.{length-plus, get_d_plus, stored_next, all_stored}
 use Rattle.fletcher.proofs.columns.plus_row.Given as goal
 
 abbrev pub invariant-loop-j : goal.invariant-loop-j

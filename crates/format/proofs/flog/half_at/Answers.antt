@@ -1,5 +1,4 @@
 -- `format::flog::half_at` meets its contract. Each word is read by `word_at`, which ensures that it is that word.
-use borrow.Author.Rules.{rules}
 use Rattle.format.specs.Flog.{half_at}
 use Rattle.format.proofs.flog.half_at.Goals as goal
 

@@ -1,7 +1,6 @@
 -- `format::flog::newer_of_pair` meets its contract. Both numbers are the words that the halves hold, and `newer` of the two is what the pair stands
 -- for.
 use mathlib.Core.Path.{◌∙◌}
-use borrow.Author.Rules.{rules}
 use Rattle.format.proofs.NewerCases.{pair_is}
 use Rattle.format.proofs.flog.newer_of_pair.Goals as goal
 

@@ -1,6 +1,5 @@
 -- `format::map::block_of` meets its contract. Each return rewrites with the test that led to it.
 use borrow.Author.Tests.{eq-eqb, ne_eqb}
-use borrow.Author.Rules.{rules}
 use Rattle.format.specs.MapWord.{block_of}
 use Rattle.format.proofs.map.block_of.Goals as goal
 

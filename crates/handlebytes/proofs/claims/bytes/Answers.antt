@@ -5,10 +5,12 @@ use Rattle.handlebytes.proofs.Whole.{encoded_stands, zeroes_stand}
 use Rattle.handlebytes.proofs.claims.bytes.Goals as goal
 
 pub returns : goal.returns
-returns c = record { bytes = record {
-      head = head_at;
-      encoded = encoded_stands;
-      zeroes = zeroes_stand;
-      fits = fits_back;
-      stored = record_stored;
-    } }
+returns c = record {
+  bytes = record {
+    head = head_at;
+    encoded = encoded_stands;
+    zeroes = zeroes_stand;
+    fits = fits_back;
+    stored = record_stored;
+  };
+}

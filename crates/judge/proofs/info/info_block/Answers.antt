@@ -4,8 +4,6 @@ use Prim.Native.Nat.{◌-◌, ◌≤◌}
 use native.Mathlib.Omega.{arith}
 use lib.Seq.{take_all}
 use lib.ListN.{length, drop, length-drop}
-use borrow.Author.Tests.{not-true, not-false}
-use borrow.Author.Rules.{rules}
 use Rattle.infoblock.proofs.InfoBlock.{length-of, info_in}
 use Rattle.infoblock.specs.Info.{info_block_of}
 use Rattle.judge.proofs.info.info_block.Goals as goal

@@ -5,8 +5,6 @@ use Prim.Native.Nat.{◌-◌, ◌≤◌}
 use native.Mathlib.Omega.{arith}
 use lib.Seq.{take_all}
 use lib.ListN.{length, drop, length-drop}
-use borrow.Author.Tests.{not-true, not-false}
-use borrow.Author.Rules.{rules}
 use Rattle.infoblock.proofs.InfoBlock.{length-of}
 use Rattle.judge.proofs.Parts.{part_none, part_counts}
 use Rattle.judge.proofs.info.info_part.Goals as goal

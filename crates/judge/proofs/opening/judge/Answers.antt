@@ -1,8 +1,6 @@
 -- `judge::opening::judge` meets its contract: one law for each way in which judging ends.
 use mathlib.Core.Path.{sym, ◌∙◌}
 use lib.ListN.{length}
-use borrow.Author.Tests.{not-true, not-false}
-use borrow.Author.Rules.{rules}
 use Rattle.judge.specs.Judge.{extent}
 use Rattle.judge.proofs.Rules.{info_refuses, figures_are, figures_fit, room-refuses, table-refuses, map-refuses, map_passes}
 use Rattle.judge.proofs.opening.judge.Goals as goal

@@ -1,7 +1,6 @@
 -- `judge::opening::judge_info` meets its contract: each return walks the order of rules 16 and 1 to 4, and only a block that passes gives figures.
 use mathlib.Core.Path.{sym, ap, ◌∙◌}
-use borrow.Author.Tests.{eq-eqb, ne_eqb, not-false}
-use borrow.Author.Rules.{rules}
+use borrow.Author.Tests.{eq-eqb, ne_eqb}
 use Rattle.infoblock.specs.Info.{figures_of}
 use Rattle.infoblock.proofs.InfoBlock.{length_in}
 use Rattle.machine.proofs.rules.Rules.{walked, stop, pass, through}

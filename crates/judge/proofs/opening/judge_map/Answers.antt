@@ -3,8 +3,7 @@
 use mathlib.Core.Path.{sym, ap, ◌∙◌}
 use mathlib.Core.Bool.{not}
 use native.Mathlib.Omega.{arith}
-use borrow.Author.Tests.{eqb-true, not-true, not-false}
-use borrow.Author.Rules.{rules}
+use borrow.Author.Tests.{eqb-true}
 use Rattle.words.specs.Bytes.{Small}
 use Rattle.lanes.proofs.Lanes.{map_fit}
 use Rattle.judge.proofs.Rules.{words_passed, passed_clean, lost_walk, words_walk, padding_walk, invalid_walk, valid_walk, once_or_not}

@@ -1,12 +1,8 @@
 -- `judge::opening::judge_words` meets its contract. The invariant: no word passed is bad, and sloppy tells whether one of them is sloppy.
-use mathlib.Core.Bool.{false}
-use mathlib.Core.Logic.{⊎_elim}
-use mathlib.Core.Path.{◌≡◌, sym, ◌∙◌}
-use Prim.Native.Nat.{ℕ, ◌-◌, ◌≤◌}
+use mathlib.Core.Path.{sym, ◌∙◌}
 use borrow.Author.Rules.{rules}
-use Rattle.format.specs.Tests.{some}
 use Rattle.format.proofs.Tests.{some_zero}
-use Rattle.judge.proofs.Words.{is_bad, is_sloppy, bad_found, bad_more, sloppy-found, sloppy_more, ends_sloppy, ends_done}
+use Rattle.judge.proofs.Words.{bad_found, bad_more, sloppy-found, sloppy_more, ends_sloppy, ends_done}
 use Rattle.judge.proofs.opening.judge_words.Goals as goal
 use Rattle.judge.proofs.opening.judge_words.Goals.{then-fault-eq18, else-fault-eq18}
 
@@ -27,9 +23,9 @@ loop-s-preserved c =
       search rules,
       λ d. bad_more d _ _ _ _ _ (m d) e c.if-fault-eq7.false (c.loop-s.invariant.1 d),
       λ d. elim c.if-fault-eq18.branch [
-        then-fault-eq18 v ↦ v.sloppy-is ∙ sloppy-found d _ _ _ _ _ (m d) e c.if-fault-eq7.false v.if-fault-eq18.true
-      | else-fault-eq18 v ↦
-          v.sloppy-is ∙ c.loop-s.invariant.2 d ∙ sloppy_more d _ _ _ _ _ (m d) e c.if-fault-eq7.false v.if-fault-eq18.false
+        | then-fault-eq18 v ↦ v.sloppy-is ∙ sloppy-found d _ _ _ _ _ (m d) e c.if-fault-eq7.false v.if-fault-eq18.true
+        | else-fault-eq18 v ↦
+            v.sloppy-is ∙ c.loop-s.invariant.2 d ∙ sloppy_more d _ _ _ _ _ (m d) e c.if-fault-eq7.false v.if-fault-eq18.false
       ],
     )
 

@@ -1,12 +1,9 @@
 -- `judge::opening::judge_words` meets its contract. The invariant: no word passed is bad, and sloppy tells whether one of them is sloppy.
 use mathlib.Core.Bool.{false}
-use mathlib.Core.Logic.{⊎_elim}
-use mathlib.Core.Path.{◌≡◌, sym, ◌∙◌}
+use mathlib.Core.Path.{◌≡◌}
 use Prim.Native.Nat.{ℕ, ◌-◌, ◌≤◌}
-use borrow.Author.Rules.{rules}
 use Rattle.format.specs.Tests.{some}
-use Rattle.format.proofs.Tests.{some_zero}
-use Rattle.judge.proofs.Words.{is_bad, is_sloppy, bad_found, bad_more, sloppy-found, sloppy_more, ends_sloppy, ends_done}
+use Rattle.judge.proofs.Words.{is_bad, is_sloppy}
 use Rattle.judge.proofs.opening.judge_words.Given as goal
 
 abbrev pub invariant-loop-s : goal.invariant-loop-s

@@ -1,11 +1,8 @@
 -- `judge::opening::lane_padded` meets its contract. The invariant: no lane passed has padding that is not zero.
 use mathlib.Core.Bool.{false}
-use mathlib.Core.Path.{◌≡◌, sym, ◌∙◌}
+use mathlib.Core.Path.{◌≡◌}
 use Prim.Native.Nat.{◌-◌, ◌≤◌}
-use native.Mathlib.Nat.{le_antisymm}
-use borrow.Author.Rules.{rules}
 use Rattle.format.specs.Tests.{some}
-use Rattle.format.proofs.Tests.{some_zero, some_more, some-found}
 use Rattle.layout.specs.Place.{layout_of}
 use Rattle.machine.specs.state.Flog.{padding_set}
 use Rattle.judge.proofs.opening.lane_padded.Given as goal

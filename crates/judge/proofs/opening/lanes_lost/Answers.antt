@@ -1,14 +1,10 @@
 -- `judge::opening::lanes_lost` meets its contract. The invariant: every lane passed is readable.
-use mathlib.Core.Bool.{true, not}
-use mathlib.Core.Path.{◌≡◌, sym, ap, ◌∙◌}
-use Prim.Native.Nat.{◌-◌, ◌≤◌}
+use mathlib.Core.Bool.{not}
+use mathlib.Core.Path.{sym, ap, ◌∙◌}
 use native.Mathlib.Nat.{le_antisymm}
-use borrow.Author.Tests.{not-true, not-false}
 use borrow.Author.Rules.{rules}
-use Rattle.format.specs.Tests.{every}
 use Rattle.format.proofs.Tests.{every_zero, every_more, every_fails}
 use Rattle.layout.specs.Place.{layout_of}
-use Rattle.machine.specs.calls.Opening.{lane_readable}
 use Rattle.judge.proofs.opening.lanes_lost.Goals as goal
 
 pub loop-l-init : goal.loop-l-init

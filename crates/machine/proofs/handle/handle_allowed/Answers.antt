@@ -1,7 +1,5 @@
 -- `machine::handle::handle_allowed` meets its contract. Each answer is a law of rule 16 at the tests that led there.
 use mathlib.Core.Path.{sym, ◌∙◌}
-use borrow.Author.Rules.{rules}
-use borrow.Author.Tests.{not-true, not-false}
 use Rattle.infoblock.proofs.InfoBlock.{length_in}
 use Rattle.machine.proofs.calls.Rule16.{handle_length, handle_slice, handle_layout, handle_last}
 use Rattle.machine.proofs.handle.handle_allowed.Goals as goal

@@ -2,7 +2,6 @@
 use Rattle.layout.specs.Place.{layout_of}
 use Rattle.machine.specs.state.Lane.{lane_allowed}
 use borrow.Author.Tests.{lt-ltb, le-ltb, le-leb, lt-leb}
-use borrow.Author.Rules.{rules}
 use mathlib.Core.Path.{sym}
 use mathlib.Core.Bool.{and-true}
 use Rattle.machine.proofs.handle.lane_allowed.Goals as goal

@@ -1,5 +1,4 @@
 -- `machine::handle::no_handle` meets its contract by that of `no_figures`.
-use borrow.Author.Rules.{rules}
 use Rattle.machine.proofs.handle.no_handle.Goals as goal
 
 pub returns : goal.returns

@@ -1,5 +1,4 @@
 -- `did_of` meets its contract: a handle of all zeroes has no lanes to read.
-use borrow.Author.Rules.{rules}
 use Rattle.replaying.proofs.run.did_of.Goals as goal
 
 pub returns : goal.returns

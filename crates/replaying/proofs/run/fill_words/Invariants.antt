@@ -1,15 +1,10 @@
 -- `fill_words` meets its contract. The loop's invariant: the words from k on are left. The measure is how many these are.
-use mathlib.Core.Path.{◌≡◌, sym, ap, ◌∙◌}
+use mathlib.Core.Path.{◌≡◌}
 use Prim.Native.Nat.{◌+◌, ◌-◌, ◌/◌, ◌≤◌}
-use native.Mathlib.Omega.{arith}
-use native.Mathlib.Nat.{le_antisymm}
 use lib.ListN.{length}
-use borrow.Author.Rules.{rules}
 use Rattle.words.specs.Word.{put_words}
-use Rattle.words.proofs.Laws.{length-put_word}
 use Rattle.layout.specs.Sizes.{max_size}
 use Rattle.replaying.specs.Replay.{rising, words_for}
-use Rattle.replaying.proofs.Words.{fill_more, fill_end}
 use Rattle.replaying.proofs.run.fill_words.Given as goal
 
 abbrev pub invariant-loop-k : goal.invariant-loop-k

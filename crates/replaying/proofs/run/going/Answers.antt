@@ -1,5 +1,4 @@
 -- `going` meets its contract: it is not stopped, and the place is within the log.
-use borrow.Author.Rules.{rules}
 use Rattle.replaying.proofs.run.going.Goals as goal
 
 pub returns : goal.returns

@@ -1,7 +1,6 @@
 -- `put_answer` meets its contract: past the end of the buffer, setting a place changes nothing.
 use mathlib.Core.Path.{sym}
 use lib.Seq.{set_out}
-use borrow.Author.Rules.{rules}
 use Rattle.replaying.proofs.run.put_answer.Goals as goal
 
 pub returns-else-index-answers : goal.returns-else-index-answers

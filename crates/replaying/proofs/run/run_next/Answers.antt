@@ -6,7 +6,6 @@ use Rattle.seen.proofs.Laws.{seen_length}
 use Rattle.replaying.proofs.Did.{none_fit, unmoved}
 use Rattle.replaying.proofs.Numbers.{did_small}
 use Rattle.replaying.proofs.Rest.{found_is, few_run, turn_stops, turn_runs}
-use borrow.Author.Rules.{rules}
 use Rattle.replaying.proofs.run.run_next.Goals as goal
 
 pub returns-then-is_refused : goal.returns-then-is_refused

@@ -3,7 +3,6 @@ use mathlib.Core.Path.{sym}
 use mathlib.Core.List.{[]}
 use Rattle.seen.proofs.Laws.{seen_length}
 use Rattle.replaying.proofs.Did.{none_fit, start_did, step_did, cut_did, refused_did}
-use borrow.Author.Rules.{rules}
 use Rattle.replaying.proofs.run.run_record.Goals as goal
 
 pub start_seen-requires : goal.start_seen-requires

@@ -3,7 +3,6 @@ use mathlib.Core.Path.{sym}
 use native.Mathlib.Omega.{arith}
 use lib.Seq.{length-take-le}
 use Rattle.replaying.proofs.Words.{words_length, words_all}
-use borrow.Author.Rules.{rules}
 use Rattle.replaying.proofs.run.run_step.Goals as goal
 
 pub slice_bounds-replay_step-end : goal.slice_bounds-replay_step-end

@@ -1,5 +1,4 @@
 -- `sector_next` meets its contract: the record is the one that is taken there, and each arm is given which it is.
-use borrow.Author.Rules.{rules}
 use Rattle.replaying.proofs.Rest.{found_is}
 use Rattle.replaying.proofs.run.sector_next.Goals as goal
 

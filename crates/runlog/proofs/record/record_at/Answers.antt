@@ -1,7 +1,6 @@
 -- `record::record_at` meets its contract: the record is the one that the two halves of the head name, and each branch says which that is.
 use native.Mathlib.Omega.{arith}
 use Rattle.runlog.proofs.Outcomes.{record_short, record_past, record_named}
-use borrow.Author.Rules.{rules}
 use borrow.Author.Tests.{ne_eqb}
 use Rattle.runlog.proofs.record.record_at.Goals as goal
 

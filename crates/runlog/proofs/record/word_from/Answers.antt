@@ -1,7 +1,6 @@
 -- `record::word_from` meets its contract: a 32-bit number is two of 16 bits.
 use mathlib.Core.Path.{sym}
 use Rattle.runlog.proofs.Outcomes.{word_halves}
-use borrow.Author.Rules.{rules}
 use Rattle.runlog.proofs.record.word_from.Goals as goal
 
 pub returns : goal.returns

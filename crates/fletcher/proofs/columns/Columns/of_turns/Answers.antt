@@ -1,5 +1,5 @@
 -- `fletcher::columns::Columns::of_turns` meets its contract. The invariant: the columns stand for the sums of k turns. The measure is what is left of n.
-use Rattle.std.proofs.Common.{◌≡◌, ◌+◌, ◌-◌, ◌*◌, ◌≤◌, sym, refl, ◌∙◌, le_antisymm, arith, rules}
+use Rattle.std.proofs.Common.{◌≡◌, ◌+◌, ◌*◌, sym, refl, ◌∙◌, le_antisymm, arith, rules}
 use Rattle.words.specs.Word.{words_from}
 use Rattle.fletcher.specs.Fletcher.{added_all}
 use Rattle.fletcher.specs.Plain.{sum, weighted}

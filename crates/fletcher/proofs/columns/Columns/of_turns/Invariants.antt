@@ -1,10 +1,8 @@
 -- `fletcher::columns::Columns::of_turns` meets its contract. The invariant: the columns stand for the sums of k turns. The measure is what is left of n.
-use Rattle.std.proofs.Common.{◌≡◌, ◌+◌, ◌-◌, ◌*◌, ◌≤◌, sym, refl, ◌∙◌, le_antisymm, arith, rules}
+use Rattle.std.proofs.Common.{◌≡◌, ◌-◌, ◌*◌, ◌≤◌}
 use Rattle.words.specs.Word.{words_from}
 use Rattle.fletcher.specs.Fletcher.{added_all}
-use Rattle.fletcher.specs.Plain.{sum, weighted}
 use Rattle.fletcher.specs.Columns.{sums_of}
-use Rattle.fletcher.proofs.Laws.{added_all-split}
 use Rattle.fletcher.proofs.columns.Columns.of_turns.Given as goal
 
 abbrev pub invariant-loop-k : goal.invariant-loop-k

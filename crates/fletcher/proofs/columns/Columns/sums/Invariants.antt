@@ -1,9 +1,7 @@
 -- `fletcher::columns::Columns::sums` meets its contract. The invariant: what is summed, and what the columns from j on have yet to add, make the whole.
 -- The measure is what is left of 8.
-use Rattle.std.proofs.Common.{◌≡◌, ℕ, ◌+◌, ◌-◌, ◌*◌, ◌%◌, ◌≤◌, length, get_or, drop, ap, arith, drop_of_length-le, w32, Fits, rules}
+use Rattle.std.proofs.Common.{◌≡◌, ℕ, ◌+◌, ◌-◌, ◌*◌, ◌≤◌, length, get_or, drop, w32, Fits}
 use Rattle.fletcher.specs.Plain.{sum, weighted}
-use Rattle.fletcher.specs.Columns.{sums_of}
-use Rattle.fletcher.proofs.Rows.{sum_from, weighted_from, weight_fits, column_fits, high_bound, high_fits}
 use Rattle.fletcher.proofs.columns.Columns.sums.Given as goal
 
 abbrev pub invariant-loop-j : goal.invariant-loop-j

@@ -1,7 +1,6 @@
 -- `format::sequence::Sequence::newer` meets its contract. Each return is one law of `newer`, by the tests that led to it.
 use native.Mathlib.Omega.{arith}
 use mathlib.Core.Path.{sym, ap, ◌∙◌}
-use borrow.Author.Rules.{rules}
 use Rattle.format.proofs.NewerCases.{newer_big, newer_big_second, newer_same, newer-unset, newer-unset_second, newer-next, newer-first}
 use Rattle.format.specs.declared.sequence.Sequence.{Sequence}
 use Rattle.format.proofs.sequence.Sequence.newer.Goals as goal

@@ -1,6 +1,5 @@
 -- `machine::lane::Lane::finished` meets its contract: the next sequence is what `Sequence::next` ensures.
 use mathlib.Core.Path.{refl}
-use borrow.Author.Rules.{rules}
 use Rattle.machine.proofs.lane.Lane.finished.Goals as goal
 
 pub returns : goal.returns
