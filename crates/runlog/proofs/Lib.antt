@@ -1,5 +1,4 @@
 pub mod Bytes
-pub mod Held
 pub mod Laws
 pub mod Logs
 pub mod Outcomes
