@@ -1,5 +1,5 @@
 -- Laws of sums in columns: rows added column by column, a turn, and what each column adds to the two sums.
-use Rattle.std.proofs.Common.{◌≡◌, ℕ, zero, suc, ◌+◌, ◌-◌, ◌*◌, ◌%◌, ◌<◌, ◌≤◌, List, [], ◌∷◌, length, get_or, take, drop, set, sym, refl, ap, ◌∙◌, mul-le-mul_right, mul-add, add-one, arith, length-drop, take_all, drop-cons, take-suc, take-suc-set, w64, Fits}
+use Rattle.std.proofs.Common.{◌≡◌, ℕ, zero, suc, ◌+◌, ◌-◌, ◌*◌, ◌%◌, ◌<◌, ◌≤◌, List, [], ◌∷◌, length, get_or, take, drop, set, sym, refl, ap, ◌∙◌, mul-le-mul_right, mul-add, add-one, arith, length-drop, take_all, drop-cons, take-suc, take-suc-set}
 use native.Mathlib.Nat.{mod-add-mod, suc_inj}
 use Rattle.fletcher.specs.Fletcher.{added_all}
 use Rattle.fletcher.specs.Plain.{sum, weighted}
@@ -82,14 +82,5 @@ module _ (b w x : ℕ) (lb : b < 4294967296) (lw : w ≤ 8) (lx : x < 4294967296
   weighs : w * x ≤ 8 * x
   weighs = mul-le-mul_right x lw
 
-  pub weight_fits : Fits w64 (w * x)
-  weight_fits = record { fits = omega (arith, weighs) }
-
-  pub column_fits : Fits w64 (8 * b + w * x)
-  column_fits = record { fits = omega (arith, weighs) }
-
   pub high_bound : (h j : ℕ) → h ≤ j * 68719476736 → h + (8 * b + w * x) ≤ (j + 1) * 68719476736
   high_bound h j l = omega (arith, weighs)
-
-  pub high_fits : (h j : ℕ) → h ≤ j * 68719476736 → j < 8 → Fits w64 (h + (8 * b + w * x))
-  high_fits h j l m = record { fits = omega (arith, high_bound h j l) }

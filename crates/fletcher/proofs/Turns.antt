@@ -1,5 +1,5 @@
 -- The law of a turn, over the number of its words, and what follows for a run that is joined to another.
-use Rattle.std.proofs.Common.{◌≡◌, ℕ, suc, ◌+◌, ◌*◌, ◌/◌, ◌%◌, ◌<◌, ◌≤◌, List, [], ◌∷◌, length, sym, refl, ap, ◌∙◌, suc-mul, mul_comm, mul-le-mul, mul-zero, mul-add, mul_left_comm, arith, w64, Fits}
+use Rattle.std.proofs.Common.{◌≡◌, ℕ, suc, ◌+◌, ◌*◌, ◌/◌, ◌%◌, List, [], ◌∷◌, length, sym, refl, ap, ◌∙◌, suc-mul, mul_comm, mul-zero, mul-add, mul_left_comm, arith}
 use native.Mathlib.Nat.{mod-mod, add-mod, add-mul-mod_self_left}
 use Rattle.words.specs.Word.{words_from}
 use Rattle.words.proofs.Runs.{length-words_from}
@@ -54,13 +54,6 @@ high_is (w ∷ ws) s h = high_is ws (added s w) (added_small s w) ∙ step s.hig
 pub turn_law : (ws : List ℕ) (s : Sums) → SmallSums s
     → added_all s ws ≡ record { low = (s.low + sum ws) % 4294967296; high = (s.high + length ws * s.low + weighted ws) % 4294967296 }
 turn_law ws s h = λ i. record { low = low_is ws s h i; high = high_is ws s h i }
-
--- the product of two numbers of 32 bits fits 64
-pub product_fits : (x y : ℕ) → x < 4294967296 → y < 4294967296 → Fits w64 (x * y)
-product_fits x y l m =
-    let xl : x ≤ 4294967295 = omega arith in
-    let yl : y ≤ 4294967295 = omega arith in
-    record { fits = omega (arith, mul-le-mul xl yl) }
 
 -- n times low, from an n that is brought below 2^32
 pub often : (h n l t : ℕ) → Same (h + n % 4294967296 * l % 4294967296 + t) (h + n * l + t)

@@ -20,10 +20,8 @@ fn eight_words(a: &[u8], i: usize) -> [u32; 8]
     ensures { result ≡ words_from a.now i 8 }
 {
     let mut words = [0u32; 8];
-    let mut j: usize = 0;
-    while j < 8 {
+    for j in 0..8 {
         words[j] = word_at(a, i + j);
-        j += 1;
     }
     words
 }
@@ -33,10 +31,8 @@ fn plus_row(x: [u32; 8], y: [u32; 8]) -> [u32; 8]
     ensures { result ≡ plus x y }
 {
     let mut row = [0u32; 8];
-    let mut j: usize = 0;
-    while j < 8 {
-        row[j] = std::num::wrapping_add_u32(x[j], y[j]);
-        j += 1;
+    for j in 0..8 {
+        row[j] = x[j].wrapping_add(y[j]);
     }
     row
 }
@@ -47,14 +43,9 @@ impl Columns {
         requires { 4 * (i + 8) ≤ length a.now }
         ensures { sums_of result ≡ added_all (sums_of self) (words_from a.now i 8) }
     {
-        let before = self.lows;
-        let earlier = self.befores;
-        let lows = plus_row(before, eight_words(a, i));
-        let befores = plus_row(earlier, before);
-        Columns {
-            lows: lows,
-            befores: befores,
-        }
+        let lows = plus_row(self.lows, eight_words(a, i));
+        let befores = plus_row(self.befores, self.lows);
+        Columns { lows, befores }
     }
 
     // The columns of n turns, from word i of a on.
@@ -66,10 +57,8 @@ impl Columns {
             lows: [0u32; 8],
             befores: [0u32; 8],
         };
-        let mut k: usize = 0;
-        while k < n {
+        for k in 0..n {
             columns = columns.turn(a, i + 8 * k);
-            k += 1;
         }
         columns
     }
@@ -78,16 +67,13 @@ impl Columns {
     pub fn sums(self) -> Sums
         ensures { result ≡ sums_of self }
     {
-        let lows = self.lows;
-        let befores = self.befores;
+        let Columns { lows, befores } = self;
         let mut low: u64 = 0;
         let mut high: u64 = 0;
-        let mut j: usize = 0;
-        while j < 8 {
-            let own = lows[j] as u64;
+        for j in 0..8 {
+            let own = u64::from(lows[j]);
             low += own;
-            high += 8 * (befores[j] as u64) + (8 - j) as u64 * own;
-            j += 1;
+            high += 8 * u64::from(befores[j]) + (8 - j) as u64 * own;
         }
         Sums {
             low: (low % 4294967296) as u32,

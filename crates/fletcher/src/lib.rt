@@ -31,12 +31,9 @@ impl Sums {
     pub fn add(self, word: u32) -> Self
         ensures { result ≡ added self word }
     {
-        let low = std::num::wrapping_add_u32(self.low, word);
-        let high = std::num::wrapping_add_u32(self.high, low);
-        Sums {
-            low: low,
-            high: high,
-        }
+        let low = self.low.wrapping_add(word);
+        let high = self.high.wrapping_add(low);
+        Sums { low, high }
     }
 
     // The sums with n words more, from word i of a on, one after the other.
@@ -45,10 +42,8 @@ impl Sums {
         ensures { result ≡ added_all self (words_from a.now i n) }
     {
         let mut sums = self;
-        let mut k: usize = 0;
-        while k < n {
+        for k in 0..n {
             sums = sums.add(word_at(a, i + k));
-            k += 1;
         }
         sums
     }
@@ -57,10 +52,10 @@ impl Sums {
     fn add_run(self, n: usize, run: Sums) -> Self
         ensures { result ≡ joined_run self n run }
     {
-        let before = (n % 4294967296) as u64 * (self.low as u64);
-        let high = self.high as u64 + before % 4294967296 + run.high as u64;
+        let before = (n % 4294967296) as u64 * u64::from(self.low);
+        let high = u64::from(self.high) + before % 4294967296 + u64::from(run.high);
         Sums {
-            low: std::num::wrapping_add_u32(self.low, run.low),
+            low: self.low.wrapping_add(run.low),
             high: (high % 4294967296) as u32,
         }
     }

@@ -1,30 +1,25 @@
--- `fletcher::columns::plus_row` meets its contract. The invariant: the first j columns are stored. The measure is what is left of 8.
-use Rattle.std.proofs.Common.{sym, refl, ◌∙◌, arith, length-set, rules}
+-- `fletcher::columns::plus_row` meets its contract. The invariant: the first j columns are stored.
+use Rattle.std.proofs.Common.{◌+◌, ◌%◌, get_or, sym, ◌∙◌, arith, length-set}
 use Rattle.fletcher.specs.Columns.{plus}
 use Rattle.fletcher.proofs.Rows.{length-plus, get_d_plus, stored_next, all_stored}
 use Rattle.fletcher.proofs.columns.plus_row.Goals as goal
-
-pub loop-j-init : goal.loop-j-init
-loop-j-init c = (search rules, refl, search rules, search rules, refl)
 
 pub loop-j-preserved : goal.loop-j-preserved
 loop-j-preserved c =
     let l = c.loop-j in
     let args = c.args in
-    let v = c.wrapping_add_u32.result in
-    let xy = l.invariant.2 ∙ sym l.invariant.3 in
+    let xy = l.invariant.1 ∙ sym l.invariant.2 in
     let e = length-plus args.x args.y xy in
-    let w = c.wrapping_add_u32.ensures.value ∙ sym (get_d_plus args.x args.y l.j xy (omega arith)) in (
-      search rules,
-      length-set l.row l.j v ∙ l.invariant.1,
+    let v = (get_or args.x l.j 0 + get_or args.y l.j 0) % 4294967296 in (
+      length-set l.row l.j v ∙ l.invariant.0,
+      l.invariant.1,
       l.invariant.2,
-      l.invariant.3,
-      stored_next l.row (plus args.x args.y) l.j v (omega arith) (omega arith) l.invariant.4 w,
+      stored_next l.row (plus args.x args.y) l.j v (omega arith) (omega arith) l.invariant.3 (sym (get_d_plus args.x args.y l.j xy (omega arith))),
     )
 
 pub returns : goal.returns
 returns c =
     let l = c.loop-j in
     let args = c.args in
-    let e = length-plus args.x args.y (l.invariant.2 ∙ sym l.invariant.3) in
-    all_stored l.row (plus args.x args.y) l.j (omega arith) (omega arith) l.invariant.4
+    let e = length-plus args.x args.y (l.invariant.1 ∙ sym l.invariant.2) in
+    all_stored l.row (plus args.x args.y) l.j (omega arith) (omega arith) l.invariant.3

@@ -1,12 +1,9 @@
--- `fletcher::columns::Columns::of_turns` meets its contract. The invariant: the columns stand for the sums of k turns. The measure is what is left of n.
-use Rattle.std.proofs.Common.{◌≡◌, ◌-◌, ◌*◌, ◌≤◌}
+-- `fletcher::columns::Columns::of_turns` meets its contract. The invariant: the columns stand for the sums of k turns.
+use Rattle.std.proofs.Common.{◌≡◌, ◌*◌}
 use Rattle.words.specs.Word.{words_from}
 use Rattle.fletcher.specs.Fletcher.{added_all}
 use Rattle.fletcher.specs.Columns.{sums_of}
 use Rattle.fletcher.proofs.columns.Columns.of_turns.Given as goal
 
 abbrev pub invariant-loop-k : goal.invariant-loop-k
-invariant-loop-k l = (l.k ≤ l.n) × (sums_of l.columns ≡ added_all (record { low = 0; high = 0 }) (words_from l.a l.i (8 * l.k)))
-
-abbrev pub decreases-loop-k : goal.decreases-loop-k
-decreases-loop-k l = l.n - l.k
+invariant-loop-k l = sums_of l.columns ≡ added_all (record { low = 0; high = 0 }) (words_from l.a l.i (8 * l.k))
