@@ -88,6 +88,7 @@ map_words =
       fault_7 = λ blocks w b. rw (rule_7_back blocks w b);
       fault_18 = λ blocks w u. rw (not_bad blocks w (λ b. omega (arith, b.0, u.0)), rule_18_back w u);
       fault_none = λ blocks w b u. rw (not_bad blocks w b, not_sloppy w u);
+      faults = (refl, refl, refl);
       rule_15 = rule_15;
       rule_15_back = λ w b. let f : flags_of w ≡ 1 = omega arith in rw f;
     }

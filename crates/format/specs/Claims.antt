@@ -1,12 +1,13 @@
 -- Map words, sequence numbers and halves said a second time, by plain numbers and byte offsets.
-use Rattle.std.specs.Prelude.{◌≡◌, ◌⊎◌, true, cond, List, ℕ, ◌+◌, ◌-◌, ◌*◌, ◌%◌, ◌≤◌, ◌<◌, eqb}
+use Rattle.std.specs.Prelude.{◌≡◌, ◌⊎◌, true, cond, List, ℕ, ◌+◌, ◌-◌, ◌*◌, ◌%◌, ◌≤◌, ◌<◌, eqb, Some, None, Ok, Err}
 use Rattle.words.specs.Bytes.{byte_word}
-use Rattle.format.specs.MapWord.{flags_of, low_bits, flag_bits, reading_of, reading_number, block_of, mapped_to, bad_word, sloppy_word, word_fault}
-use Rattle.format.specs.Sequence.{successor, next_of, newer, half_of}
+use Rattle.format.specs.MapWord.{flags_of, low_bits, flag_bits, reading_of, reading_number, block_of, mapped_to, bad_word, sloppy_word, word_fault, fault_number}
+use Rattle.format.specs.Sequence.{successor, next_of, newer, half_number}
 use Rattle.format.specs.Flog.{newer_of_pair, half_at}
 use Rattle.format.specs.declared.map.MapState.TheVariants.{Unwritten, Bad, Zeroed, Data}
 use Rattle.format.specs.declared.map.Reading.TheVariants.{Zeroes, BadSector, Bytes}
-use Rattle.format.specs.declared.sequence.Newer.TheVariants.{First, Second, Neither}
+use Rattle.format.specs.declared.map.WordFault.TheVariants.{PastLast, Sloppy}
+use Rattle.format.specs.declared.sequence.HalfNo.TheVariants.{First, Second}
 use Rattle.format.specs.declared.flog.Half.{Half}
 
 -- ---- the flags of a map word as numbers: bit 31 is Zero, bit 30 is Error
@@ -72,6 +73,8 @@ pub record MapWordsClaim : Type 0 where
   pub fault_7 : (blocks w : ℕ) → BadWord blocks w → word_fault blocks w ≡ 7
   pub fault_18 : (blocks w : ℕ) → SloppyWord w → word_fault blocks w ≡ 18
   pub fault_none : (blocks w : ℕ) → (BadWord blocks w → ⊥) → (SloppyWord w → ⊥) → word_fault blocks w ≡ 0
+  -- the numbers of the faults that the code names
+  pub faults : (fault_number {A = Unit {0}} (Ok tt) ≡ 0) × (fault_number {A = Unit {0}} (Err PastLast) ≡ 7) × (fault_number {A = Unit {0}} (Err Sloppy) ≡ 18)
   -- rule 15: bit 30 alone
   pub rule_15 : (w : ℕ) → eqb (reading_of (flags_of w)) 1 ≡ true → Bit30Alone w
   pub rule_15_back : (w : ℕ) → Bit30Alone w → eqb (reading_of (flags_of w)) 1 ≡ true
@@ -99,7 +102,7 @@ pub record FlogClaim : Type 0 where
   pub after_3 : successor 3 ≡ 1
   pub next : (x : ℕ) → (next_of (record { 0 = x })).0 ≡ successor x
   -- the numbers of the halves that the code names
-  pub halves : (half_of First ≡ 0) × (half_of Second ≡ 1) × (half_of Neither ≡ 2)
+  pub halves : (half_number (Some First) ≡ 0) × (half_number (Some Second) ≡ 1) × (half_number None ≡ 2)
   -- the newer half of any two: the first (0), the second (1), and else none (2)
   pub first : (x y : ℕ) → NewerThan x y → newer x y ≡ 0
   pub second : (x y : ℕ) → NewerThan y x → newer x y ≡ 1

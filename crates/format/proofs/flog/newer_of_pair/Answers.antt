@@ -5,10 +5,4 @@ use Rattle.format.proofs.NewerCases.{pair_is}
 use Rattle.format.proofs.flog.newer_of_pair.Goals as goal
 
 pub returns : goal.returns
-returns c =
-    c.newer.ensures ∙ rw (
-      c.new-second.ensures,
-      c.word_at-2.ensures,
-      c.new-first.ensures,
-      c.word_at.ensures,
-    ) (pair_is _ _ _)
+returns c = c.newer.ensures ∙ rw (c.word_at-2.ensures, c.word_at.ensures) (pair_is _ _ _)
