@@ -3,10 +3,10 @@
 
 pub mod claims;
 
-ghost use Rattle.std.specs.Prelude.{◌≡◌, true, ℕ, ◌+◌, ◌*◌, ◌/◌, ◌≤◌, ◌<◌, length};
-ghost use Rattle.layout.specs.Sizes.{max_size, internal_of};
+ghost use Rattle.std.specs.Prelude.{◌≡◌, true, ℕ, ◌+◌, ◌*◌, ◌/◌, ◌≤◌, ◌<◌, length, MatchOption};
+ghost use Rattle.layout.specs.Sizes.{max_size, internal_of, size_allowed};
 ghost use Rattle.layout.specs.Figures.{length_allowed, counts_allowed, sizes_allowed, starts_aligned, parts_in_order, figures_allowed};
-ghost use Rattle.layout.specs.Figures.{round_up, fresh_length, fresh_figures, figures_at};
+ghost use Rattle.layout.specs.Figures.{round_up, map_start, flog_start, copy_start, fresh_length, fresh_figures, figures_at};
 ghost use Rattle.layout.specs.Place.{layout_of, in_data, in_map, in_flog, at, lane_word_at, is_padding};
 ghost use Rattle.layout.specs.Told.{alone, distance_allowed};
 
@@ -28,7 +28,7 @@ pub const FAR: u32 = 32;
 const HALF_WORDS: usize = 4;
 
 // The figures of an arena, as its info block has them; starts are in bytes.
-#[derive(Clone, Copy)]
+#[derive(Clone, Copy, Debug, PartialEq, Eq)]
 pub struct Figures {
     // S: bytes of a sector.
     pub size: u32,
@@ -48,7 +48,7 @@ pub struct Figures {
 }
 
 // What an opening is told: the next arena that the info block must name, and the bytes between the starts of a lane's two halves.
-#[derive(Clone, Copy)]
+#[derive(Clone, Copy, Debug, PartialEq, Eq)]
 pub struct Told {
     pub next: u64,
     pub distance: u32,
@@ -68,10 +68,7 @@ pub fn alone(d: u32) -> Told
 pub fn distance_allowed(d: u32) -> bool
     ensures { result ≡ distance_allowed d }
 {
-    if d == NEAR {
-        return true;
-    }
-    d == FAR
+    d == NEAR || d == FAR
 }
 
 // The five figures from word i on and the four starts from word j on.
@@ -92,70 +89,55 @@ pub fn figures_at(b: &[u8], i: usize, j: usize) -> Figures
     }
 }
 
-// The table of sector sizes, each with its internal size, the bytes of a block; 0 for any other number.
-pub fn internal_of(size: u32) -> u32
-    ensures { result ≡ internal_of size }
+// The table of sector sizes, each with its internal size, the bytes of a block; none for any other number.
+#[tactic(auto, unfolding(crate::specs::Sizes::internal_of))]
+pub fn internal_of(size: u32) -> Option<u32>
+    ensures { MatchOption result (internal_of size ≡ 0) (λ n. (n ≡ internal_of size) × (1 ≤ n)) }
 {
     match size {
-        512 => 512,
-        520 => 576,
-        528 => 576,
-        4096 => 4096,
-        4104 => 4160,
-        _ => 0,
+        512 => Some(512),
+        520 => Some(576),
+        528 => Some(576),
+        4096 => Some(4096),
+        4104 => Some(4160),
+        _ => None,
     }
+}
+
+// The internal size of an allowed sector size.
+fn internal_size(size: u32) -> u32
+    requires { size_allowed size ≡ true }
+    ensures { result ≡ internal_of size }
+{
+    internal_of(size).unwrap()
 }
 
 // Rule 1: whether a slice of that length can be an arena.
 pub fn length_allowed(length: usize) -> bool
     ensures { result ≡ length_allowed length }
 {
-    if length % 4096 != 0 {
-        return false;
-    }
-    if length < 20480 {
-        return false;
-    }
-    length <= 16777216
+    length % 4096 == 0 && 20480 <= length && length <= 16777216
 }
 
 // Whether a number of sectors and a number of lanes are allowed.
 fn counts_allowed(sectors: u32, lanes: u32) -> bool
     ensures { result ≡ counts_allowed sectors lanes }
 {
-    if sectors < lanes {
-        return false;
-    }
-    if lanes < 1 {
-        return false;
-    }
-    lanes <= MAX_LANES
+    lanes <= sectors && 1 <= lanes && lanes <= MAX_LANES
 }
 
 // Whether a sector size, a number of sectors and a number of lanes are allowed.
 pub fn sizes_allowed(size: u32, sectors: u32, lanes: u32) -> bool
     ensures { result ≡ sizes_allowed size sectors lanes }
 {
-    if internal_of(size) == 0 {
-        return false;
-    }
-    counts_allowed(sectors, lanes)
+    internal_of(size).is_some() && counts_allowed(sectors, lanes)
 }
 
 // Whether the four starts are multiples of 4,096.
 fn starts_aligned(f: Figures) -> bool
     ensures { result ≡ starts_aligned f }
 {
-    if f.dataoff % 4096 != 0 {
-        return false;
-    }
-    if f.mapoff % 4096 != 0 {
-        return false;
-    }
-    if f.flogoff % 4096 != 0 {
-        return false;
-    }
-    f.copyoff % 4096 == 0
+    f.dataoff % 4096 == 0 && f.mapoff % 4096 == 0 && f.flogoff % 4096 == 0 && f.copyoff % 4096 == 0
 }
 
 // Whether each part ends at or before the next start, from the copy's start down, so that no sum can wrap.
@@ -163,52 +145,27 @@ fn parts_in_order(f: Figures, length: usize) -> bool
     requires { (4096 ≤ length) × (length ≤ 16777216) }
     ensures { result ≡ parts_in_order f length }
 {
-    if f.copyoff != (length - 4096) as u64 {
-        return false;
-    }
-    if f.copyoff < f.flogoff {
-        return false;
-    }
-    if f.copyoff < f.flogoff + 64 * (f.lanes as u64) {
-        return false;
-    }
-    if f.flogoff < f.mapoff {
-        return false;
-    }
-    if f.flogoff < f.mapoff + 4 * (f.sectors as u64) {
-        return false;
-    }
-    if f.mapoff < f.dataoff {
-        return false;
-    }
-    if f.mapoff < f.dataoff + (f.blocks as u64) * (f.internal as u64) {
-        return false;
-    }
-    4096 <= f.dataoff
+    f.copyoff == (length - 4096) as u64
+        && f.flogoff <= f.copyoff
+        && f.flogoff + 64 * (f.lanes as u64) <= f.copyoff
+        && f.mapoff <= f.flogoff
+        && f.mapoff + 4 * (f.sectors as u64) <= f.flogoff
+        && f.dataoff <= f.mapoff
+        && f.dataoff + (f.blocks as u64) * (f.internal as u64) <= f.mapoff
+        && 4096 <= f.dataoff
 }
 
 // Whether every figure is allowed in an arena of that length.
+#[tactic(auto, unfolding(crate::specs::Figures::figures_allowed))]
 pub fn figures_allowed(f: Figures, length: usize) -> bool
     requires { (4096 ≤ length) × (length ≤ 16777216) }
     ensures { result ≡ figures_allowed f length }
 {
-    let internal = internal_of(f.size);
-    if internal == 0 {
-        return false;
-    }
-    if f.internal != internal {
-        return false;
-    }
-    if !counts_allowed(f.sectors, f.lanes) {
-        return false;
-    }
-    if f.blocks as u64 != f.sectors as u64 + f.lanes as u64 {
-        return false;
-    }
-    if !starts_aligned(f) {
-        return false;
-    }
-    parts_in_order(f, length)
+    internal_of(f.size) == Some(f.internal)
+        && counts_allowed(f.sectors, f.lanes)
+        && f.blocks as u64 == f.sectors as u64 + f.lanes as u64
+        && starts_aligned(f)
+        && parts_in_order(f, length)
 }
 
 // The least multiple of 4,096 that is n or more.
@@ -219,16 +176,38 @@ fn round_up(n: u64) -> u64
     (n + 4095) / 4096 * 4096
 }
 
+// The starts of map, flog and copy that making works out.
+#[derive(Clone, Copy)]
+struct Starts {
+    mapoff: u64,
+    flogoff: u64,
+    copyoff: u64,
+}
+
+fn fresh_starts(size: u32, sectors: u32, lanes: u32) -> Starts
+    requires { sizes_allowed size sectors lanes ≡ true }
+    ensures mapoff { result.mapoff ≡ map_start size sectors lanes }
+    ensures flogoff { result.flogoff ≡ flog_start size sectors lanes }
+    ensures copyoff { result.copyoff ≡ copy_start size sectors lanes }
+{
+    let blocks = sectors as u64 + lanes as u64;
+    let mapoff = round_up(4096 + blocks * (internal_size(size) as u64));
+    let flogoff = round_up(mapoff + 4 * (sectors as u64)); // A map word is four bytes.
+    let copyoff = round_up(flogoff + 64 * (lanes as u64));
+    Starts {
+        mapoff,
+        flogoff,
+        copyoff,
+    }
+}
+
 // The length that making works out.
+#[tactic(auto, unfolding(crate::specs::Figures::fresh_length))]
 pub fn fresh_length(size: u32, sectors: u32, lanes: u32) -> u64
     requires { sizes_allowed size sectors lanes ≡ true }
     ensures { result ≡ fresh_length size sectors lanes }
 {
-    let blocks = sectors as u64 + lanes as u64;
-    let mapoff = round_up(4096 + blocks * (internal_of(size) as u64));
-    let flogoff = round_up(mapoff + 4 * (sectors as u64));
-    let copyoff = round_up(flogoff + 64 * (lanes as u64));
-    copyoff + 4096
+    fresh_starts(size, sectors, lanes).copyoff + 4096
 }
 
 // The figures that making works out, for a length that is allowed.
@@ -236,21 +215,17 @@ pub fn fresh_figures(size: u32, sectors: u32, lanes: u32) -> Figures
     requires { (sizes_allowed size sectors lanes ≡ true) × (fresh_length size sectors lanes ≤ 16777216) }
     ensures { result ≡ fresh_figures size sectors lanes }
 {
-    let blocks = sectors + lanes;
-    let internal = internal_of(size);
-    let mapoff = round_up(4096 + (blocks as u64) * (internal as u64));
-    let flogoff = round_up(mapoff + 4 * (sectors as u64)); // A map word is four bytes.
-    let copyoff = round_up(flogoff + 64 * (lanes as u64));
+    let starts = fresh_starts(size, sectors, lanes);
     Figures {
-        size: size,
-        sectors: sectors,
-        internal: internal,
-        blocks: blocks,
-        lanes: lanes,
+        size,
+        sectors,
+        internal: internal_size(size),
+        blocks: sectors + lanes,
+        lanes,
         dataoff: 4096,
-        mapoff: mapoff,
-        flogoff: flogoff,
-        copyoff: copyoff,
+        mapoff: starts.mapoff,
+        flogoff: starts.flogoff,
+        copyoff: starts.copyoff,
     }
 }
 
@@ -281,14 +256,8 @@ pub fn lane_place(f: Figures, lane: LaneNo, k: usize) -> usize
 pub fn is_padding(d: u32, k: usize) -> bool
     ensures { result ≡ is_padding (d / 4) k }
 {
-    if k < HALF_WORDS {
-        return false;
-    }
     let second = (d / 4) as usize;
-    if k < second {
-        return true;
-    }
-    second + HALF_WORDS <= k
+    HALF_WORDS <= k && (k < second || second + HALF_WORDS <= k)
 }
 
 // The word number of word k of a block.
