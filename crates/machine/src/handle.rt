@@ -7,7 +7,7 @@ ghost use Rattle.machine.specs.state.Handle.{no_figures, zero_handle, handle_all
 use super::lane::Lane;
 use layout::{Figures, distance_allowed, figures_allowed, length_allowed};
 
-#[derive(Clone, Copy)]
+#[derive(Clone, Copy, Debug, PartialEq, Eq)]
 pub struct Handle {
     pub length: u64,
     // The layout: bytes from a lane's first half to its second.
@@ -36,54 +36,35 @@ pub fn no_figures() -> Figures
 pub fn no_handle() -> Handle
     ensures { result ≡ zero_handle }
 {
-    let figures = no_figures();
     Handle {
         length: 0,
         distance: 0,
-        figures: figures,
+        figures: no_figures(),
     }
 }
 
 // Whether a lane's record is in range, idle or not.
+#[tactic(auto, unfolding(crate::specs::state::Lane::lane_allowed, layout::specs::Place::layout_of))]
 pub fn lane_allowed(f: Figures, r: Lane) -> bool
     ensures { (d : ℕ) → result ≡ lane_allowed (layout_of d f) r }
 {
-    if f.blocks <= r.block.0 {
-        return false;
-    }
-    if f.blocks <= r.old.0 {
-        return false;
-    }
-    if 2 <= r.half {
-        return false;
-    }
-    if r.sequence.0 < 1 {
-        return false;
-    }
-    if 3 < r.sequence.0 {
-        return false;
-    }
-    if f.sectors <= r.sector.0 {
-        return false;
-    }
-    if 1 < r.busy {
-        return false;
-    }
-    r.made < f.size / 4 + 5
+    r.block.0 < f.blocks
+        && r.old.0 < f.blocks
+        && r.half < 2
+        && 1 <= r.sequence.0
+        && r.sequence.0 <= 3
+        && r.sector.0 < f.sectors
+        && r.busy <= 1
+        && r.made < f.size / 4 + 5
 }
 
 // Rule 16 does not apply to the handle: the layout and the figures are allowed and match a slice of that length.
+#[tactic(auto, unfolding(crate::specs::state::Handle::handle_allowed))]
 pub fn handle_allowed(h: Handle, total: usize) -> bool
     ensures { result ≡ handle_allowed h total }
 {
-    if !length_allowed(total) {
-        return false;
-    }
-    if h.length != total as u64 {
-        return false;
-    }
-    if !distance_allowed(h.distance) {
-        return false;
-    }
-    figures_allowed(h.figures, total)
+    length_allowed(total)
+        && h.length == total as u64
+        && distance_allowed(h.distance)
+        && figures_allowed(h.figures, total)
 }

@@ -7,7 +7,7 @@ use format::numbers::{BlockNo, SectorNo};
 use format::sequence::Sequence;
 
 #[repr(C)]
-#[derive(Clone, Copy)]
+#[derive(Clone, Copy, Debug, PartialEq, Eq)]
 pub struct Lane {
     // 1 where a write is in flight, else 0; any other number is out of range.
     pub busy: u32,
@@ -28,8 +28,7 @@ impl Lane {
     pub fn none() -> Self
         ensures { result ≡ no_lane }
     {
-        let zero = Sequence(0);
-        Lane::idle(BlockNo(0), 0, zero)
+        Lane::idle(BlockNo(0), 0, Sequence::UNSET)
     }
 
     // An idle lane.
@@ -38,9 +37,9 @@ impl Lane {
     {
         Lane {
             busy: 0,
-            block: block,
-            half: half,
-            sequence: sequence,
+            block,
+            half,
+            sequence,
             sector: SectorNo(0),
             old: BlockNo(0),
             made: 0,
@@ -55,42 +54,34 @@ impl Lane {
     }
 
     // The record with a write to a sector begun.
-    pub fn start(mut self, sector: SectorNo, old: BlockNo) -> Self
+    pub fn start(self, sector: SectorNo, old: BlockNo) -> Self
         ensures { result ≡ started_lane self sector.0 old.0 }
     {
-        self.busy = 1;
-        self.sector = sector;
-        self.old = old;
-        self.made = 0; // No store is made yet.
-        self
+        Lane {
+            busy: 1,
+            sector,
+            old,
+            made: 0, // No store is made yet.
+            ..self
+        }
     }
 
     // The record after one store that is not the last.
-    pub fn stored(mut self) -> Self
+    pub fn stored(self) -> Self
         requires { self.made < max_stores }
         ensures { result ≡ stored_lane self }
     {
-        self.made = self.made + 1;
-        self
+        Lane {
+            made: self.made + 1,
+            ..self
+        }
     }
 
     // The record after the last store: idle, old is free, the other half and the successor come next.
-    pub fn finished(mut self) -> Self
+    pub fn finished(self) -> Self
         requires { self.half ≤ 1 }
         ensures { result ≡ finished_lane self }
     {
-        let sequence = self.sequence;
-        let next = sequence.next();
-        let old = self.old;
-        let no_sector = SectorNo(0);
-        let no_block = BlockNo(0);
-        self.busy = 0;
-        self.block = old;
-        self.half = 1 - self.half;
-        self.sequence = next;
-        self.sector = no_sector;
-        self.old = no_block;
-        self.made = 0;
-        self
+        Lane::idle(self.old, 1 - self.half, self.sequence.next())
     }
 }

@@ -1,7 +1,7 @@
-// The state machine of an arena: lane records, the handle, answers, and the claims about the calls.
+// The state machine of an arena: lane records, the handle, refusals, and the claims about the calls.
 #![tactic(auto)]
 
-pub mod answer;
 pub mod claims;
 pub mod handle;
 pub mod lane;
+pub mod refusal;

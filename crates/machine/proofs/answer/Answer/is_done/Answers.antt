@@ -1,8 +1,0 @@
--- `Answer::is_done` meets its contract by that of `number`.
-use mathlib.Core.Path.{ap}
-use Prim.Native.Nat.{ℕ}
-use lib.Dec.{eqb}
-use Rattle.machine.proofs.answer.Answer.is_done.Goals as goal
-
-pub returns : goal.returns
-returns c = ap (λ (n : ℕ). eqb n 0) c.number.ensures
