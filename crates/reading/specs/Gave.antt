@@ -1,6 +1,8 @@
 -- What a read gave, in the form of its definition.
-use Rattle.std.specs.Prelude.{List, ℕ}
+use Rattle.std.specs.Prelude.{List, ℕ, Result}
+use Rattle.machine.specs.declared.refusal.Refusal.{Refusal}
+use Rattle.machine.specs.state.Answer.{number_of}
 use Rattle.machine.specs.calls.Reading.{Read}
 
-abbrev pub read_gave : ℕ → List ℕ → Read
-read_gave n buffer = record { number = n; buffer = buffer }
+abbrev pub read_gave : {A : Type 0} → Result A Refusal → List ℕ → Read
+read_gave r buffer = record { number = number_of r; buffer = buffer }

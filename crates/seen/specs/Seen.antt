@@ -1,15 +1,16 @@
 -- What a call sees of the table that is lent with a handle, and what it gives back, in the form of the machine's definitions.
-use Rattle.std.specs.Prelude.{◌≡◌, Bool, cond, ◌&&◌, List, ℕ, eqb, leb, length}
+use Rattle.std.specs.Prelude.{◌≡◌, Bool, cond, ◌&&◌, List, ℕ, eqb, leb, length, Result, Ok, Err}
 use Rattle.format.specs.Tests.{every}
 use Rattle.layout.specs.Place.{layout_of}
 use Rattle.machine.specs.declared.handle.Handle as bare
 use Rattle.machine.specs.declared.lane.Lane.{Lane}
+use Rattle.machine.specs.declared.refusal.Refusal.{Refusal}
+use Rattle.machine.specs.state.Answer.{refusal_number}
 use Rattle.machine.specs.state.Lane.{is_busy, lane_allowed}
 use Rattle.machine.specs.state.Handle.{Handle, with, lane_at, with_lane}
 use Rattle.machine.specs.calls.Judging.{in_flight}
 use Rattle.machine.specs.calls.Writing.{Outcome}
 use Rattle.seen.specs.declared.Seen.{Seen}
-use Rattle.seen.specs.declared.Moved.{Moved}
 
 -- a record has sector s in flight
 abbrev pub flies : Lane → ℕ → Bool
@@ -46,6 +47,7 @@ pub record Saw (h : bare.Handle) (l s : ℕ) (seen : Seen) : Type 0 where
 abbrev pub Every : bare.Handle → ℕ → ℕ → Seen → (Handle → Type 0) → Type 0
 Every h l s seen P = (t : List Lane) → seen ≡ seen_of h t l s → P (with h t)
 
--- what a call gave: its number, the arena, and the table with the one record stored
-abbrev pub moved : Handle → Moved → List ℕ → Outcome
-moved k m arena = record { number = m.number; arena = arena; handle = with_lane k m.at m.own }
+-- what a call on lane l gave: its number, the arena, and the table with the lane's record stored; a refusal stores none
+abbrev pub moved : Handle → ℕ → Result Lane Refusal → List ℕ → Outcome
+moved k l (Ok own) arena = record { number = 0; arena = arena; handle = with_lane k l own }
+moved k l (Err r) arena = record { number = refusal_number r; arena = arena; handle = k }
