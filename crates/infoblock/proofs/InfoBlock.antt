@@ -120,6 +120,22 @@ pub sound_intro : (b : List ℕ) → length b ≡ 4096 → signed b ≡ true →
 unfolding sound
 sound_intro b l s c = rw (eq-eqb _ _ l, s, eq-eqb _ _ c)
 
+-- the block that counts is a whole one
+module _ (main copy : List ℕ) where
+  pub main_whole : counts_of main copy ≡ 0 → length main ≡ 4096
+  main_whole e =
+      by_bool (sound main) (length main ≡ 4096) (sound_size main)
+      (λ f. by_bool (sound copy) (length main ≡ 4096)
+      (λ t. absurd (omega (arith, e, counts_copy main copy f t)))
+      (λ g. absurd (omega (arith, e, counts_none main copy f g))))
+
+  pub copy_whole : counts_of main copy ≡ 1 → length copy ≡ 4096
+  copy_whole e =
+      by_bool (sound copy) (length copy ≡ 4096) (sound_size copy)
+      (λ g. by_bool (sound main) (length copy ≡ 4096)
+      (λ t. absurd (omega (arith, e, counts_main main copy t)))
+      (λ f. absurd (omega (arith, e, counts_none main copy f g))))
+
 -- the block that counts is empty, or 4,096 bytes long and sound
 pub info_size : (a : List ℕ) → (info_block_of a ≡ []) ⊎ ((length (info_block_of a) ≡ 4096) × (sound (info_block_of a) ≡ true))
 unfolding info_block_of counting_of counts_of

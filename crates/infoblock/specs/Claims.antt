@@ -1,5 +1,5 @@
 -- The info block said a second time: its fields by byte, when it is sound, which of two counts, and every byte of a made one.
-use Rattle.std.specs.Prelude.{◌≡◌, true, List, [], ◌∷◌, ℕ, ◌+◌, ◌-◌, ◌*◌, ◌≤◌, ◌<◌, length, get_or, take, drop}
+use Rattle.std.specs.Prelude.{◌≡◌, Some, None, true, List, [], ◌∷◌, ℕ, ◌+◌, ◌-◌, ◌*◌, ◌≤◌, ◌<◌, length, get_or, take, drop}
 use Rattle.words.specs.Word.{put_words}
 use Rattle.words.specs.Bytes.{Small, byte_word, byte_long, words_in}
 use Rattle.fletcher.specs.Claims.{fletcher_value, field_cleared}
@@ -21,7 +21,7 @@ use Rattle.infoblock.specs.Info.{
   info_allowed,
   info_words,
 }
-use Rattle.infoblock.specs.declared.Counts.TheVariants.{Main, Copy, Neither}
+use Rattle.infoblock.specs.declared.Part.TheVariants.{Main, Copy}
 
 -- the 16-bit number at byte o
 abbrev pub byte_short : List ℕ → ℕ → ℕ
@@ -77,7 +77,7 @@ pub record SoundClaim : Type 0 where
   pub none : (main copy : List ℕ) → Small main → Small copy → (Sound main → ⊥) → (Sound copy → ⊥)
       → (counts_of main copy ≡ 2) × (counting_of main copy ≡ [])
   -- the numbers of the blocks that the code names
-  pub numbers : (counts_number Main ≡ 0) × (counts_number Copy ≡ 1) × (counts_number Neither ≡ 2)
+  pub numbers : (counts_number (Some Main) ≡ 0) × (counts_number (Some Copy) ≡ 1) × (counts_number None ≡ 2)
   -- of an arena the first and the last 4,096 bytes, where its length is allowed
   pub arena : (a : List ℕ) → Length (length a) → info_block_of a ≡ counting_of (take 4096 a) (drop (length a - 4096) a)
   pub no_arena : (a : List ℕ) → (Length (length a) → ⊥) → info_block_of a ≡ []

@@ -1,14 +1,14 @@
 -- The info block: 1,024 words, by word number. Signature 0, identifiers 4 and 8, flags 12, version 13, S 14, E 15, internal size 16,
 -- blocks 17, lanes 18, info size 19, next arena 20, starts of data, map, flog and copy 22, 24, 26, 28, checksum 1,022.
-use Rattle.std.specs.Prelude.{Bool, cond, ◌&&◌, List, [], ◌∷◌, ◌++◌, ℕ, ◌-◌, ◌/◌, ◌%◌, eqb, length, take, drop, replicate}
+use Rattle.std.specs.Prelude.{Bool, Option, Some, None, cond, ◌&&◌, List, [], ◌∷◌, ◌++◌, ℕ, ◌-◌, ◌/◌, ◌%◌, eqb, length, take, drop, replicate}
 use Rattle.words.specs.Word.{word, long}
 use Rattle.fletcher.specs.Fletcher.{fletcher64, block_checksum}
 use Rattle.format.specs.Tests.{all_of, every}
 use Rattle.layout.specs.Figures.{figures_allowed, figures_at, length_allowed}
 use Rattle.layout.specs.declared.Figures.{Figures}
 use Rattle.layout.specs.declared.Told.{Told}
-use Rattle.infoblock.specs.declared.Counts.{Counts}
-use Rattle.infoblock.specs.declared.Counts.TheVariants.{Main, Copy, Neither}
+use Rattle.infoblock.specs.declared.Part.{Part}
+use Rattle.infoblock.specs.declared.Part.TheVariants.{Main, Copy}
 
 -- BTT_ARENA_INFO and two zero bytes
 abbrev pub signature : List ℕ
@@ -25,11 +25,11 @@ sound b = eqb (length b) 4096 && (signed b && eqb (long b 1022) (block_checksum 
 unfoldable pub counts_of : List ℕ → List ℕ → ℕ
 counts_of main copy = cond (sound main) 0 (cond (sound copy) 1 2)
 
--- which block the enum names
-abbrev pub counts_number : Counts → ℕ
-counts_number Main = 0
-counts_number Copy = 1
-counts_number Neither = 2
+-- the number of the block that counts
+abbrev pub counts_number : Option Part → ℕ
+counts_number (Some Main) = 0
+counts_number (Some Copy) = 1
+counts_number None = 2
 
 -- the block that counts, or no bytes
 unfoldable pub counting_of : List ℕ → List ℕ → List ℕ

@@ -3,7 +3,7 @@
 
 pub mod claims;
 
-ghost use Rattle.std.specs.Prelude.{◌≡◌, ◌+◌, ◌*◌, ◌/◌, ◌%◌, ◌≤◌, ◌<◌, length};
+ghost use Rattle.std.specs.Prelude.{◌≡◌, ◌+◌, ◌*◌, ◌/◌, ◌%◌, ◌≤◌, ◌<◌, length, [], MatchOption, IfSome};
 ghost use Rattle.words.specs.Word.{put_words};
 ghost use Rattle.infoblock.specs.Info.{signed, sound, counts_of, counts_number, counting_of, flags_allowed, figures_of};
 ghost use Rattle.infoblock.specs.Info.{header_allowed, info_allowed, head_words, info_words};
@@ -20,64 +20,51 @@ fn is_signed(b: &[u8]) -> bool
     requires { 16 ≤ length b.now }
     ensures { result ≡ signed b.now }
 {
-    let mut k: usize = 0;
-    while k < 4 {
-        if word_at(b, k) != SIGNATURE[k] {
+    for (k, word) in SIGNATURE.iter().enumerate() {
+        if word_at(b, k) != *word {
             return false;
         }
-        k += 1;
     }
     true
 }
 
 // Whether a block is sound: 4,096 bytes whose signature and checksum match.
+#[tactic(auto, unfolding(crate::specs::Info::sound))]
 pub fn is_sound(b: &[u8]) -> bool
     ensures { result ≡ sound b.now }
 {
-    if b.len() != 4096 {
-        return false;
-    }
-    if !is_signed(b) {
-        return false;
-    }
-    long_at(b, 1022) == block_checksum(b)
+    b.len() == 4096 && is_signed(b) && long_at(b, 1022) == block_checksum(b)
 }
 
-// Which of two blocks counts.
-#[derive(Clone, Copy)]
-pub enum Counts {
+// The two places of an info block.
+#[derive(Clone, Copy, Debug, PartialEq, Eq)]
+pub enum Part {
     Main,
     Copy,
-    Neither,
 }
 
-// The first if sound, else the copy if sound, else neither.
-pub fn which_counts(main: &[u8], copy: &[u8]) -> Counts
+// Which of two blocks counts: the first if sound, else the copy if sound, else neither.
+#[tactic(auto, unfolding(crate::specs::Info::counts_of))]
+pub fn which_counts(main: &[u8], copy: &[u8]) -> Option<Part>
     ensures { counts_number result ≡ counts_of main.now copy.now }
 {
     if is_sound(main) {
-        return Counts::Main;
+        Some(Part::Main)
+    } else if is_sound(copy) {
+        Some(Part::Copy)
+    } else {
+        None
     }
-    if is_sound(copy) {
-        return Counts::Copy;
-    }
-    Counts::Neither
 }
 
-// The block that counts, as the caller's own bytes; no bytes where neither does.
-pub fn counting<'a>(main: &'a [u8], copy: &'a [u8]) -> &'a [u8]
-    ensures { result.now ≡ counting_of main.now copy.now }
+// The block that counts, as the caller's own bytes.
+pub fn counting<'a>(main: &'a [u8], copy: &'a [u8]) -> Option<&'a [u8]>
+    ensures bytes { MatchOption result (counting_of main.now copy.now ≡ []) (λ b. b.now ≡ counting_of main.now copy.now) }
+    ensures whole { IfSome result (λ b. length b.now ≡ 4096) }
 {
-    match which_counts(main, copy) {
-        Counts::Main => {
-            return main;
-        }
-        Counts::Copy => {
-            return copy;
-        }
-        Counts::Neither => {
-            return &main[..0];
-        }
+    match which_counts(main, copy)? {
+        Part::Main => Some(main),
+        Part::Copy => Some(copy),
     }
 }
 
@@ -98,21 +85,13 @@ pub fn figures_of(b: &[u8]) -> Figures
 }
 
 // Whether version and info size are allowed, and the next arena is the one given.
+#[tactic(auto, unfolding(crate::specs::Info::header_allowed))]
 fn header_allowed(b: &[u8], next: u64) -> bool
     requires { 4096 ≤ length b.now }
     ensures { result ≡ header_allowed next b.now }
 {
     let version = word_at(b, 13);
-    if version % 65536 != 2 {
-        return false;
-    }
-    if version / 65536 != 0 {
-        return false;
-    }
-    if word_at(b, 19) != 4096 {
-        return false;
-    }
-    long_at(b, 20) == next
+    version % 65536 == 2 && version / 65536 == 0 && word_at(b, 19) == 4096 && long_at(b, 20) == next
 }
 
 // Rule 3: whether every figure of the table is allowed, flags apart.
@@ -120,10 +99,7 @@ pub fn info_allowed(b: &[u8], told: Told, total: usize) -> bool
     requires { (4096 ≤ length b.now) × (4096 ≤ total) × (total ≤ 16777216) }
     ensures { result ≡ info_allowed told b.now total }
 {
-    if !header_allowed(b, told.next) {
-        return false;
-    }
-    figures_allowed(figures_of(b), total)
+    header_allowed(b, told.next) && figures_allowed(figures_of(b), total)
 }
 
 // The low and the high word of a 64-bit number.
@@ -183,10 +159,8 @@ fn put_head(a: &mut [u8], i: usize, head: [u32; 30])
     requires { 4 * (i + 30) ≤ length a.old }
     ensures { a.new ≡ put_words a.old i head }
 {
-    let mut k: usize = 0;
-    while k < 30 {
-        put_word(a, i + k, head[k]);
-        k += 1;
+    for (k, word) in head.iter().enumerate() {
+        put_word(a, i + k, *word);
     }
 }
 

@@ -1,7 +1,6 @@
 -- `is_signed` meets its contract. The invariant: every word of the signature before k is right. A wrong word makes the whole test
 -- false.
 use lib.Dec.{eqb}
-use Prim.Native.Nat.{◌≤◌, ◌-◌}
 use mathlib.Core.Bool.{true}
 use mathlib.Core.Path.{◌≡◌}
 use Rattle.infoblock.specs.Info.{signature}
@@ -10,7 +9,4 @@ use Rattle.words.specs.Word.{word}
 use Rattle.infoblock.proofs.is_signed.Given as goal
 
 abbrev pub invariant-loop-k : goal.invariant-loop-k
-invariant-loop-k l = (l.k ≤ 4) × (every l.k (λ j. eqb (word l.b j) (word signature j)) ≡ true)
-
-abbrev pub decreases-loop-k : goal.decreases-loop-k
-decreases-loop-k l = 4 - l.k
+invariant-loop-k l = every l.k (λ j. eqb (word l.b j) (word signature j)) ≡ true
