@@ -1,25 +1,10 @@
--- `judge::info::info_part` meets its contract: an allowed length leaves room for both blocks, and the part up to the end is the last
--- 4,096 bytes.
-use mathlib.Core.Path.{sym, ◌∙◌}
-use Prim.Native.Nat.{◌-◌, ◌≤◌}
-use native.Mathlib.Omega.{arith}
-use lib.Seq.{take_all}
-use lib.ListN.{length, drop, length-drop}
-use Rattle.infoblock.proofs.InfoBlock.{length-of}
+-- `judge::info::info_part` meets its contract, by those of `both_blocks` and `which_counts`.
+use Rattle.std.proofs.Common.{◌∙◌}
 use Rattle.judge.proofs.Parts.{part_none, part_counts}
 use Rattle.judge.proofs.info.info_part.Goals as goal
 
-pub returns-then-not-length_allowed : goal.returns-then-not-length_allowed
-returns-then-not-length_allowed c = part_none _ (sym c.length_allowed.ensures ∙ c.if-not-length_allowed.true)
-
-pub overflow_sub-copy : goal.overflow_sub-copy
-overflow_sub-copy c =
-    let e = sym c.length_allowed.ensures ∙ c.if-not-length_allowed.false in
-    omega (arith, (length-of (length c.args.arena.now) e).1)
+pub returns-in_err-main : goal.returns-in_err-main
+returns-in_err-main c = rw c.from_residual.ensures (part_none _ c.in_err-main.ensures.allowed)
 
 pub returns : goal.returns
-returns c =
-    let a = c.args.arena.now in
-    let e = sym c.length_allowed.ensures ∙ c.if-not-length_allowed.false in
-    let h : length (drop (length a - 4096) a) ≤ length a - (length a - 4096) = simp length-drop (omega arith) in
-    c.which_counts.ensures ∙ rw (take_all _ _ h) (part_counts a e)
+returns c = c.which_counts.ensures ∙ rw (c.in_ok-main.ensures.main, c.in_ok-main.ensures.copy) (part_counts _ c.in_ok-main.ensures.allowed)
