@@ -7,7 +7,7 @@ ghost use Rattle.btt.specs.Gave as gave;
 
 use format::numbers::LaneNo;
 use handlebytes::put_record;
-use infoblock::Counts;
+use infoblock::Part;
 use judge::info::info_part;
 use machine::answer::Answer;
 use machine::handle::Handle;
@@ -27,15 +27,15 @@ pub fn info_span(arena: &[u8]) -> Span
 {
     let n = arena.len();
     match info_part(arena) {
-        Counts::Main => Span {
+        Some(Part::Main) => Span {
             offset: 0,
             length: 4096,
         },
-        Counts::Copy => Span {
+        Some(Part::Copy) => Span {
             offset: (n - 4096) as u64,
             length: 4096,
         },
-        Counts::Neither => Span {
+        None => Span {
             offset: 0,
             length: 0,
         },

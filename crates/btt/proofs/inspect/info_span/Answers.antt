@@ -6,16 +6,16 @@ use Rattle.btt.specs.Calls.{btt_info_block_of}
 use Rattle.btt.proofs.inspect.info_span.Goals as goal
 
 pub overflow_sub-result : goal.overflow_sub-result
-overflow_sub-result c = omega (arith, (copy_part _ (sym c.in-Copy.ensures)).0)
+overflow_sub-result c = omega (arith, (copy_part _ (sym (rw c.in-Some-Copy.field-0-is at c.in-Some-Copy.ensures))).0)
 
-pub returns-in-Main : goal.returns-in-Main
+pub returns-in-Some-Main : goal.returns-in-Some-Main
 unfolding btt_info_block_of
-returns-in-Main c = rw (sym c.in-Main.ensures)
+returns-in-Some-Main c = rw (sym (rw c.in-Some-Main.field-0-is at c.in-Some-Main.ensures))
 
-pub returns-in-Copy : goal.returns-in-Copy
+pub returns-in-Some-Copy : goal.returns-in-Some-Copy
 unfolding btt_info_block_of
-returns-in-Copy c = rw (sym c.in-Copy.ensures)
+returns-in-Some-Copy c = rw (sym (rw c.in-Some-Copy.field-0-is at c.in-Some-Copy.ensures))
 
-pub returns-in-Neither : goal.returns-in-Neither
+pub returns-in-None : goal.returns-in-None
 unfolding btt_info_block_of
-returns-in-Neither c = rw (sym c.in-Neither.ensures)
+returns-in-None c = rw (sym c.in-None.ensures)
