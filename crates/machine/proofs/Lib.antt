@@ -17,3 +17,4 @@ pub mod row
 pub mod book
 -- The exhibited run.
 pub mod exhibit
+pub mod Refusals

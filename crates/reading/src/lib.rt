@@ -46,10 +46,10 @@ fn judge_read(
     }
     let word = map_word(arena, f, sector);
     judge_word(f.blocks, word)?;
-    if reading_of(word) == Reading::BadSector {
-        return Err(Refusal::BadSector);
+    match reading_of(word) {
+        Reading::BadSector => Err(Refusal::BadSector),
+        Reading::Zeroes | Reading::Bytes => Ok(()),
     }
-    Ok(())
 }
 
 // Copies n words, from word i of the arena on, to the start of the buffer.
@@ -77,11 +77,12 @@ pub fn read_seen(
     let f = h.figures;
     let words = (f.size / 4) as usize;
     let found = map_word(arena, f, sector);
-    if reading_of(found) == Reading::Bytes {
-        let place = data_place(f, block_of(sector, found), 0);
-        copy_words(arena, place, buffer, words);
-    } else {
-        zero_words(buffer, 0, words);
+    match reading_of(found) {
+        Reading::Bytes => {
+            let place = data_place(f, block_of(sector, found), 0);
+            copy_words(arena, place, buffer, words);
+        }
+        Reading::Zeroes | Reading::BadSector => zero_words(buffer, 0, words),
     }
     Ok(())
 }

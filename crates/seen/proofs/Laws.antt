@@ -1,5 +1,6 @@
 -- Laws of what a call sees: each part of it says what the rules ask of the table.
 use mathlib.Core.Path.{◌≡◌, refl, sym, ap, ◌∙◌}
+use Rattle.std.proofs.Common.{Err}
 use mathlib.Core.Bool.{Bool, true, false, cond, not, ◌&&◌, ◌||◌}
 use mathlib.Core.List.{List, [], ◌∷◌}
 use Prim.Native.Nat.{ℕ, zero, suc, ◌+◌, ◌≤◌, ◌<◌}
@@ -7,16 +8,24 @@ use native.Mathlib.Omega.{arith}
 use native.Mathlib.Nat.{le_antisymm}
 use native.Mathlib.Numerals.{add-one}
 use lib.Dec.{eqb, ltb}
-use lib.ListN.{length, set}
+use lib.ListN.{length}
 use borrow.Author.Tests.{le-leb, lt-ltb, le-ltb, eq-eqb, ne_eqb, not-true, not-false}
 use Rattle.format.proofs.Tests.{true_false, by_bool, every_elim, every_more, every_zero, some_step, some_zero}
 use Rattle.layout.specs.Fit.{Fit}
 use Rattle.machine.specs.declared.handle.Handle as bare
 use Rattle.machine.specs.declared.lane.Lane.{Lane}
+use Rattle.format.specs.MapWord.{bad_word, sloppy_word, word_fault, fault_number}
+use Rattle.format.specs.declared.map.WordFault.{WordFault}
+use Rattle.format.specs.declared.map.WordFault.TheVariants.{PastLast, Sloppy}
+use Rattle.format.proofs.MapWord.{fault_bad, fault_in, fault_sloppy, fault_clean}
 use Rattle.machine.specs.Rules.{answer}
+use Rattle.machine.specs.declared.refusal.Refusal.{Refusal}
+use Rattle.machine.specs.state.Answer.{refusal_number, refusal_of}
+use Rattle.machine.specs.state.Flog.{map_word}
+use Rattle.machine.proofs.Refusals.{not_zero}
 use Rattle.machine.specs.state.Lane.{is_busy}
-use Rattle.machine.specs.state.Handle.{Handle, with, lane_at, with_lane, handle_allowed, table_short, records_allowed}
-use Rattle.machine.specs.calls.Order.{Rule, short_table, number, table_rules}
+use Rattle.machine.specs.state.Handle.{Handle, with, lane_at, laid_out, handle_allowed, table_short, records_allowed}
+use Rattle.machine.specs.calls.Order.{Rule, short_table, bad_map_word, sloppy_map_word, number, table_rules}
 use Rattle.machine.specs.calls.Judging.{in_flight, tests}
 use Rattle.machine.proofs.rules.Rules.{Walk, walked, stop, pass, through, passed_all, answer_append}
 use Rattle.machine.proofs.rules.Running.{some_number}
@@ -109,6 +118,35 @@ module _ (a : List ℕ) (k : Handle) (n : ℕ) (first : n ≡ answer number (tes
   pub rest_walk : {m : ℕ} → eqb n 0 ≡ true → Walk number (tests a k) rest m → m ≡ answer number (tests a k) (table_rules rest)
   rest_walk p w = walked w ∙ sym (first_passes p)
 
+-- where the first rules let a call pass, a walk along the others ends at the call's number; where one of them applies, so is its refusal's
+module _ (a : List ℕ) (k : Handle) (rest : List Rule) where
+  pub passed_walk : {m : ℕ} → 0 ≡ answer number (tests a k) (table_rules []) → Walk number (tests a k) rest m
+      → m ≡ answer number (tests a k) (table_rules rest)
+  passed_walk first w = rest_walk a k 0 first rest refl w
+
+  pub refused_first : (r : Refusal) → refusal_number r ≡ answer number (tests a k) (table_rules [])
+      → refusal_number r ≡ answer number (tests a k) (table_rules rest)
+  refused_first r first = first-refuses a k (refusal_number r) first rest (not_zero r)
+
+-- ---- a sector's map word, as `judge_word` judges it
+
+module _ (a : List ℕ) (k : Handle) (s w : ℕ) (is : w ≡ map_word (laid_out k) a s) (rest : List Rule) where
+  abbrev blocks : ℕ
+  blocks = k.figures.blocks
+
+  pub word_stops : (f : WordFault) → fault_number {A = Unit {0}} (Err f) ≡ word_fault blocks w
+      → Walk number (tests a k) (bad_map_word s ∷ sloppy_map_word s ∷ rest) (refusal_number (refusal_of f))
+  word_stops PastLast e = stop (ap (bad_word blocks) (sym is) ∙ fault_bad blocks w 7 e refl)
+  word_stops Sloppy e =
+      pass (ap (bad_word blocks) (sym is) ∙ fault_in blocks w 18 e (λ n. absurd (omega arith)))
+      (stop (ap sloppy_word (sym is) ∙ fault_sloppy blocks w 18 e refl))
+
+  pub word_passes : {m : ℕ} → 0 ≡ word_fault blocks w → Walk number (tests a k) rest m
+      → Walk number (tests a k) (bad_map_word s ∷ sloppy_map_word s ∷ rest) m
+  word_passes e r =
+      pass (ap (bad_word blocks) (sym is) ∙ fault_in blocks w 0 e (λ n. absurd (omega arith)))
+      (pass (ap sloppy_word (sym is) ∙ fault_clean blocks w 0 e (λ n. absurd (omega arith)) (λ n. absurd (omega arith))) r)
+
 -- ---- the table, record by record
 
 module _ (h : bare.Handle) (t : List Lane) (s : ℕ) where
@@ -152,14 +190,3 @@ seen_is h t l s n i p b own en es eb ep eo = λ k. record {
     guarded : (x y z : Bool) → (x ≡ true → y ≡ z) → x && y ≡ x && z
     guarded true y z h = h refl
     guarded false y z h = refl
-
--- ---- a record that is stored past the table's end
-
-pub set_past : {A : Type 0} (l : List A) (i : ℕ) (x : A) → length l ≤ i → set l i x ≡ l
-set_past [] i x h = refl
-set_past (y ∷ ys) zero x h = absurd (omega arith)
-set_past (y ∷ ys) (suc i) x h = ap (λ r. y ∷ r) (set_past ys i x (omega arith))
-
--- so a refusal leaves the table
-pub kept_past : (k : Handle) (n : ℕ) (r : Lane) → length k.table ≤ n → with_lane k n r ≡ k
-kept_past k n r u = ap (λ (t : List Lane). record { length = k.length; distance = k.distance; figures = k.figures; table = t }) (set_past k.table n r u)

@@ -1,13 +1,7 @@
--- What a refusal gives, and what the judgement of a write says.
+-- What the judgement of a write says.
 use Rattle.std.specs.Prelude.{◌≡◌, Bool, List, ℕ, eqb, length}
 use Rattle.machine.specs.state.Handle.{Handle}
 use Rattle.machine.specs.calls.Writing.{write_number}
-use Rattle.seen.specs.declared.Seen.{Seen}
-use Rattle.seen.specs.declared.Moved.{Moved}
-
--- the number, and nothing to store: a record past the table's end
-abbrev pub refusal : ℕ → Seen → Moved
-refusal n seen = record { number = n; at = seen.length; own = seen.own }
 
 -- n is the number of every write whose buffer fits, or of every one whose buffer does not
 abbrev pub WriteGives : List ℕ → Handle → ℕ → ℕ → Bool → ℕ → Type 0

