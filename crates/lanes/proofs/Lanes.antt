@@ -1,5 +1,5 @@
 -- Where a lane's words and a sector's word stand in an arena that fits, and what the newer half's record tells of a lane.
-use mathlib.Core.Path.{◌≡◌, ap, ap₂, ◌∙◌}
+use mathlib.Core.Path.{◌≡◌, refl, ap, ap₂, ◌∙◌}
 use mathlib.Core.Bool.{false, and-true, and-false}
 use mathlib.Core.List.{List}
 use Prim.Native.Nat.{ℕ, ◌+◌, ◌*◌, ◌/◌, ◌≤◌, ◌<◌}
@@ -9,7 +9,12 @@ use lib.ListN.{length}
 use borrow.Author.Tests.{lt-ltb, le-ltb}
 use Rattle.words.specs.Word.{word}
 use Rattle.words.specs.Bytes.{Small}
-use Rattle.format.specs.Sequence.{newer}
+use Rattle.format.specs.Sequence.{newer, half_number}
+use Rattle.format.specs.declared.sequence.HalfNo.{HalfNo}
+use Rattle.format.specs.declared.sequence.HalfNo.TheVariants.{First, Second}
+use Rattle.format.specs.contracts.sequence.HalfNo.{the_type}
+use denote.Enum.Declared.{tag_of}
+use Rattle.std.specs.Prelude.{Option, Some, None, IsSome}
 use Rattle.format.specs.Flog.{newer_of_pair, half_at}
 use Rattle.layout.specs.Place.{Layout, layout_of, in_flog, at, lane_word_at}
 use Rattle.layout.specs.declared.Figures.{Figures}
@@ -69,6 +74,25 @@ newer_words g a l =
     let e3 : at g (in_flog l h 0) + 3 ≡ at g (in_flog l h 3) = omega arith in
     rw (e1, e2, e3)
 
+-- the number that a half is cast to
+pub half_tag : (h : HalfNo) → tag_of the_type h ≡ half_number (Some h)
+half_tag First = refl
+half_tag Second = refl
+
+pub half_below : (h : HalfNo) → half_number (Some h) < 2
+half_below First = omega arith
+half_below Second = omega arith
+
+-- some half is the newer where the number says so
+pub some_newer : (h : Option HalfNo) (n : ℕ) → half_number h ≡ n → n < 2 → IsSome h
+some_newer (Some h) n e p = refl
+some_newer None n e p = absurd (omega arith)
+
+-- the words of the half that is the newer
+pub newer_is : (g : Layout) (a : List ℕ) (l k : ℕ) (h : Half) → h ≡ half_at a (at g (in_flog l k 0)) → k ≡ newer_half g a l → h ≡ newer_flog g a l
+unfolding newer_flog
+newer_is g a l k h e n = e ∙ ap (λ (x : ℕ). half_at a (at g (in_flog l x 0))) n
+
 -- of a lane whose newer half is h
 module _ (d : ℕ) (f : Figures) (a : List ℕ) (l : ℕ) (h : Half) (e : h ≡ newer_flog (layout_of d f) a l) where
   pub sector_is : h.sector.0 ≡ newer_word (layout_of d f) a l 0
@@ -103,9 +127,6 @@ no_newer g a l h = rw (le-ltb (newer_half g a l) 2 h)
 module _ (d : ℕ) (f : Figures) (a : List ℕ) (l : ℕ) (fit : LaneFit d f a l) where
   pub reads : Readable (layout_of d f) a l
   reads = readable_of (layout_of d f) a l fit.readable
-
-  pub has_half : (Fit d f (length a) × (l < f.lanes)) × (newer_half (layout_of d f) a l < 2)
-  has_half = ((fit.fit, fit.lane), reads.newer)
 
 -- a lane of an arena that rule 6 lets pass
 pub lane_fit : (d : ℕ) (f : Figures) (a : List ℕ) → AllFit d f a → (l : ℕ) → l < f.lanes → LaneFit d f a l

@@ -3,15 +3,14 @@
 
 ghost use Rattle.std.specs.Prelude.{◌≡◌, ℕ, ◌<◌, length};
 ghost use Rattle.layout.specs.Place.{layout_of};
-ghost use Rattle.machine.specs.state.Flog.{map_word, map_block, newer_half, free_of, spare_of, pending, newer_flog, padding_set};
-ghost use Rattle.machine.specs.calls.Opening.{lane_readable, found_lane};
 ghost use Rattle.layout.specs.Fit.{Fit};
-ghost use Rattle.lanes.specs.Fit.{MapFit, LaneFit};
+ghost use Rattle.machine.specs.state.Flog.{map_word, map_block};
+ghost use Rattle.lanes.specs.Fit.{MapFit};
 
 use format::flog::{Half, half_at, newer_of_pair};
 use format::map::block_of;
 use format::numbers::{BlockNo, LaneNo, SectorNo};
-use format::sequence::Newer;
+use format::sequence::HalfNo;
 use layout::{Figures, flog_place, is_padding, lane_place, map_place};
 use machine::lane::Lane;
 use words::word_at;
@@ -32,102 +31,121 @@ pub fn map_block(a: &[u8], f: Figures, s: SectorNo) -> BlockNo
     block_of(s, map_word(a, f, s))
 }
 
-// A lane's newer half: 0, 1, or 2 for neither.
-pub fn newer_half(a: &[u8], f: Figures, d: u32, l: LaneNo) -> u32
-    requires { Fit d f (length a.now) × (l.0 < f.lanes) }
-    ensures { result ≡ newer_half (layout_of d f) a.now l.0 }
-{
-    match newer_of_pair(a, flog_place(f, d, l, 0, 0), (d / 4) as usize) {
-        Newer::First => 0,
-        Newer::Second => 1,
-        Newer::Neither => 2,
-    }
+// The bytes of an arena, its figures, which fit them, and how many bytes apart the two halves of a lane start.
+#[derive(Clone, Copy)]
+pub struct ArenaView<'a> {
+    pub bytes: &'a [u8],
+    pub figures: Figures,
+    pub distance: u32,
+    pub ghost fit: { Fit distance figures (length bytes.now) },
 }
 
-// The newer half of a lane that has one.
-pub fn newer_flog(a: &[u8], f: Figures, d: u32, l: LaneNo) -> Half
-    requires fit { Fit d f (length a.now) × (l.0 < f.lanes) }
-    requires l_bound { newer_half (layout_of d f) a.now l.0 < 2 }
-    ensures { result ≡ newer_flog (layout_of d f) a.now l.0 }
-{
-    let half = newer_half(a, f, d, l);
-    half_at(a, flog_place(f, d, l, half, 0))
-}
+impl<'a> ArenaView<'a> {
+    ghost use Rattle.machine.specs.state.Flog.{newer_half, free_of, spare_of, pending, newer_flog, padding_set};
+    ghost use Rattle.machine.specs.calls.Opening.{lane_readable, found_lane};
+    ghost use Rattle.format.specs.Sequence.{half_number};
+    ghost use Rattle.format.specs.Flog.{half_at};
+    ghost use Rattle.layout.specs.Place.{in_flog, at};
+    ghost use Rattle.lanes.specs.View.{layout, IsLane, IsReadable};
 
-// Rule 6, of one lane: whether it has a newer half, whose numbers are in range.
-pub fn lane_readable(a: &[u8], f: Figures, d: u32, l: LaneNo) -> bool
-    requires { Fit d f (length a.now) × (l.0 < f.lanes) }
-    ensures { result ≡ lane_readable (layout_of d f) a.now l.0 }
-{
-    if 2 <= newer_half(a, f, d, l) {
-        return false;
+    // A lane's newer half, if one is.
+    pub fn newer_half(&self, l: LaneNo) -> Option<HalfNo>
+        requires { IsLane self.now l.0 }
+        ensures { half_number result ≡ newer_half (layout self.now) self.now.bytes.now l.0 }
+    {
+        let first = flog_place(self.figures, self.distance, l, 0, 0);
+        newer_of_pair(self.bytes, first, (self.distance / 4) as usize)
     }
-    let h = newer_flog(a, f, d, l);
-    if f.sectors <= h.sector.0 {
-        return false;
-    }
-    if f.blocks <= h.old.0 {
-        return false;
-    }
-    h.new.0 < f.blocks
-}
 
-// Rule 18, of one lane: whether some word of its padding is not zero.
-pub fn padding_set(a: &[u8], f: Figures, d: u32, l: LaneNo) -> bool
-    requires { Fit d f (length a.now) × (l.0 < f.lanes) }
-    ensures { result ≡ padding_set (layout_of d f) a.now l.0 }
-{
-    let mut k: usize = 0;
-    while k < 16 {
-        if is_padding(d, k) {
-            if word_at(a, lane_place(f, l, k)) != 0 {
+    // A half of a lane's flog.
+    fn half(&self, l: LaneNo, half: HalfNo) -> Half
+        requires { IsLane self.now l.0 }
+        ensures { result ≡ half_at self.now.bytes.now (at (layout self.now) (in_flog l.0 (half_number (Some half)) 0)) }
+    {
+        half_at(
+            self.bytes,
+            flog_place(self.figures, self.distance, l, half as u32, 0),
+        )
+    }
+
+    // The newer half of a lane that has one.
+    pub fn newer_flog(&self, l: LaneNo) -> Half
+        requires lane { IsLane self.now l.0 }
+        requires newer { newer_half (layout self.now) self.now.bytes.now l.0 < 2 }
+        ensures { result ≡ newer_flog (layout self.now) self.now.bytes.now l.0 }
+    {
+        self.half(l, self.newer_half(l).unwrap())
+    }
+
+    // Rule 6, of one lane: whether it has a newer half, whose numbers are in range.
+    pub fn lane_readable(&self, l: LaneNo) -> bool
+        requires { IsLane self.now l.0 }
+        ensures { result ≡ lane_readable (layout self.now) self.now.bytes.now l.0 }
+    {
+        let Some(newer) = self.newer_half(l) else {
+            return false;
+        };
+        let h = self.half(l, newer);
+        let f = self.figures;
+        h.sector.0 < f.sectors && h.old.0 < f.blocks && h.new.0 < f.blocks
+    }
+
+    // Rule 18, of one lane: whether some word of its padding is not zero.
+    pub fn padding_set(&self, l: LaneNo) -> bool
+        requires { IsLane self.now l.0 }
+        ensures { result ≡ padding_set (layout self.now) self.now.bytes.now l.0 }
+    {
+        for k in 0..16 {
+            if is_padding(self.distance, k)
+                && word_at(self.bytes, lane_place(self.figures, l, k)) != 0
+            {
                 return true;
             }
         }
-        k += 1;
+        false
     }
-    false
-}
 
-// Whether a lane is pending: the block of map[sector] is old.
-pub fn is_pending(a: &[u8], f: Figures, d: u32, l: LaneNo) -> bool
-    requires { LaneFit d f a.now l.0 }
-    ensures { result ≡ pending (layout_of d f) a.now l.0 }
-{
-    let h = newer_flog(a, f, d, l);
-    let b = map_block(a, f, h.sector);
-    b.0 == h.old.0
-}
-
-// A lane's free block.
-pub fn free_block(a: &[u8], f: Figures, d: u32, l: LaneNo) -> BlockNo
-    requires { LaneFit d f a.now l.0 }
-    ensures { result.0 ≡ free_of (layout_of d f) a.now l.0 }
-{
-    newer_flog(a, f, d, l).old
-}
-
-// The block that neither the map as found nor another lane has: new of a pending lane, else old.
-pub fn spare_block(a: &[u8], f: Figures, d: u32, l: LaneNo) -> BlockNo
-    requires { LaneFit d f a.now l.0 }
-    ensures { result.0 ≡ spare_of (layout_of d f) a.now l.0 }
-{
-    let h = newer_flog(a, f, d, l);
-    if is_pending(a, f, d, l) {
-        return h.new;
+    // The block that a sector's map word stands for.
+    pub fn map_block(&self, s: SectorNo) -> BlockNo
+        requires { s.0 < self.now.figures.sectors }
+        ensures { result.0 ≡ map_block (layout self.now) self.now.bytes.now s.0 }
+    {
+        map_block(self.bytes, self.figures, s)
     }
-    h.old
-}
 
-// A lane's record as opening leaves it.
-pub fn found_lane(a: &[u8], f: Figures, d: u32, l: LaneNo) -> Lane
-    requires { LaneFit d f a.now l.0 }
-    ensures { result ≡ found_lane (layout_of d f) a.now l.0 }
-{
-    let half = newer_half(a, f, d, l);
-    let h = newer_flog(a, f, d, l);
-    let sequence = h.sequence;
-    let next = sequence.next();
-    let old = h.old;
-    Lane::idle(old, 1 - half, next)
+    // Whether a lane is pending: the block of map[sector] is old.
+    pub fn is_pending(&self, l: LaneNo) -> bool
+        requires { IsReadable self.now l.0 }
+        ensures { result ≡ pending (layout self.now) self.now.bytes.now l.0 }
+    {
+        let h = self.newer_flog(l);
+        self.map_block(h.sector).0 == h.old.0
+    }
+
+    // A lane's free block.
+    pub fn free_block(&self, l: LaneNo) -> BlockNo
+        requires { IsReadable self.now l.0 }
+        ensures { result.0 ≡ free_of (layout self.now) self.now.bytes.now l.0 }
+    {
+        self.newer_flog(l).old
+    }
+
+    // The block that neither the map as found nor another lane has: new of a pending lane, else old.
+    pub fn spare_block(&self, l: LaneNo) -> BlockNo
+        requires { IsReadable self.now l.0 }
+        ensures { result.0 ≡ spare_of (layout self.now) self.now.bytes.now l.0 }
+    {
+        let h = self.newer_flog(l);
+        if self.is_pending(l) { h.new } else { h.old }
+    }
+
+    // A lane's record as opening leaves it.
+    pub fn found_lane(&self, l: LaneNo) -> Lane
+        requires { IsReadable self.now l.0 }
+        ensures { result ≡ found_lane (layout self.now) self.now.bytes.now l.0 }
+    {
+        let newer = self.newer_half(l).unwrap();
+        let h = self.half(l, newer);
+        Lane::idle(h.old, 1 - newer as u32, h.sequence.next())
+    }
 }

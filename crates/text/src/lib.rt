@@ -8,7 +8,7 @@ ghost use Rattle.text.specs.Opened.{most_lanes, opened};
 ghost use Rattle.text.specs.Put.{Put};
 
 use format::numbers::LaneNo;
-use lanes::found_lane;
+use lanes::ArenaView;
 use machine::handle::Handle;
 use machine::lane::Lane;
 
@@ -96,7 +96,12 @@ fn put_lanes(out: &mut [u8], at: usize, arena: &[u8], h: Handle) -> usize
     let mut l: u32 = 0;
     let mut next = at;
     while l < n {
-        let lane = found_lane(arena, h.figures, h.distance, LaneNo(l));
+        let view = ArenaView {
+            bytes: arena,
+            figures: h.figures,
+            distance: h.distance,
+        };
+        let lane = view.found_lane(LaneNo(l));
         next = put_lane(out, next, l, lane);
         l += 1;
     }
