@@ -4,7 +4,8 @@ use mathlib.Core.Bool.{Bool, true, false, cond, ◌&&◌}
 use mathlib.Core.List.{List}
 use Prim.Native.Nat.{ℕ, ◌≤◌, ◌<◌}
 use native.Mathlib.Omega.{arith}
-use lib.ListN.{length}
+use lib.ListN.{length, take, replicate, length-replicate}
+use Rattle.std.proofs.Common.{length-take-le}
 use Rattle.format.proofs.MapWord.{block-in}
 use Rattle.layout.specs.Place.{layout_of}
 use Rattle.layout.specs.declared.Figures.{Figures}
@@ -13,25 +14,26 @@ use Rattle.machine.proofs.opening.Mends.{readable_of}
 use Rattle.machine.proofs.opening.Opens.{words_pass}
 use Rattle.machine.proofs.invariant.Tidy.{tidy_of}
 use Rattle.lanes.specs.Fit.{AllFit}
-use Rattle.lanes.proofs.Lanes.{map_fit, lane_fit}
-use Rattle.once.specs.Once.{cleared, counted, counts_between, lane_block, blocks_once, Under, MapUnder}
-use Rattle.once.proofs.Counts.{most_tell, once_tell, cleared_again, cleared_twice}
+use Rattle.lanes.proofs.Lanes.{lane_fit}
+use Rattle.once.specs.Once.{counted, counts_between, blocks_once, Under}
+use Rattle.once.proofs.Counts.{most_tell, once_tell, length-counted}
+
+-- the part of a buffer that is filled with zeroes
+pub zeroed : (w w₁ : List ℕ) (n : ℕ) → n ≤ length w → w₁ ≡ replicate (length (take n w)) 0 → w₁ ≡ replicate n 0
+zeroed w w₁ n h e = e ∙ ap (λ (x : ℕ). replicate x 0) (length-take-le n w h)
 
 -- what rules 6, 7 and 18 give of the blocks
 module _ (d : ℕ) (f : Figures) (a : List ℕ) (fit : AllFit d f a) where
-  pub map_under : MapUnder f a
+  pub mapped_under : Under (map_block (layout_of d f) a) f.sectors f.blocks
   unfolding layout_of
-  map_under = record {
-    fit = map_fit d f (length a) fit.fit;
-    under = λ e s h. block-in f.blocks s (map_word (layout_of d f) a s) (omega (arith, fit.fit.ok.blocks))
-        (words_pass (layout_of d f) a fit.words s h) ((tidy_of (layout_of d f) a fit.clean).words s h);
-  }
+  mapped_under s h = block-in f.blocks s (map_word (layout_of d f) a s) (omega (arith, fit.fit.ok.blocks))
+      (words_pass (layout_of d f) a fit.words s h) ((tidy_of (layout_of d f) a fit.clean).words s h)
 
-  free_under : Under (free_of (layout_of d f) a) f.lanes f.blocks
+  pub free_under : Under (free_of (layout_of d f) a) f.lanes f.blocks
   unfolding layout_of
   free_under l h = (readable_of (layout_of d f) a l (lane_fit d f a fit l h).readable).old
 
-  spare_under : Under (spare_of (layout_of d f) a) f.lanes f.blocks
+  pub spare_under : Under (spare_of (layout_of d f) a) f.lanes f.blocks
   unfolding layout_of spare_of
   spare_under l h = go (pending (layout_of d f) a l)
     where
@@ -39,28 +41,23 @@ module _ (d : ℕ) (f : Figures) (a : List ℕ) (fit : AllFit d f a) where
       go true = (readable_of (layout_of d f) a l (lane_fit d f a fit l h).readable).new
       go false = free_under l h
 
-  pub lane_under : (spare : Bool) → Under (lane_block spare (layout_of d f) a) f.lanes f.blocks
-  lane_under true = spare_under
-  lane_under false = free_under
-
--- the course of blocks_once: what the two tests of the bytes say together, and the buffer in the end
-pub claimed : (d : ℕ) (f : Figures) (a : List ℕ) → AllFit d f a → (w w₁ w₂ w₃ w₄ w₅ w₆ : List ℕ) (t o : Bool) → f.blocks ≤ length w
-    → w₁ ≡ cleared f.blocks w → w₂ ≡ counted w₁ f.lanes (lane_block false (layout_of d f) a) → t ≡ counts_between w₂ f.blocks 0 1
-    → w₃ ≡ cleared f.blocks w₂ → w₄ ≡ counted w₃ f.sectors (map_block (layout_of d f) a)
-    → w₅ ≡ counted w₄ f.lanes (lane_block true (layout_of d f) a) → o ≡ counts_between w₅ f.blocks 1 1 → w₆ ≡ cleared f.blocks w₅
-    → (blocks_once (layout_of d f) a ≡ t && o) × (w₆ ≡ cleared f.blocks w)
-unfolding blocks_once layout_of
-claimed d f a fit w w₁ w₂ w₃ w₄ w₅ w₆ t o l p₁ p₂ pt p₃ p₄ p₅ po p₆ =
-    let n = f.blocks in
-    let mapped = map_block (layout_of d f) a in
-    let free = free_of (layout_of d f) a in
-    let spare = spare_of (layout_of d f) a in
-    let uf = free_under d f a fit in
-    let um = (map_under d f a fit).under d in
-    let us = spare_under d f a fit in
-    let e₂ = p₂ ∙ ap (λ (x : List ℕ). counted x f.lanes free) p₁ in
-    let e₃ = p₃ ∙ ap (cleared n) e₂ ∙ cleared_again n w l f.lanes free uf in
-    let e₅ = p₅ ∙ ap (λ (x : List ℕ). counted x f.lanes spare) (p₄ ∙ ap (λ (x : List ℕ). counted x f.sectors mapped) e₃) in
-    let et = pt ∙ ap (λ (x : List ℕ). counts_between x n 0 1) e₂ ∙ most_tell n w l f.lanes free uf in
-    let eo = po ∙ ap (λ (x : List ℕ). counts_between x n 1 1) e₅ ∙ once_tell n w l f.sectors f.lanes mapped spare um us in
-    (sym (ap₂ ◌&&◌ et eo), p₆ ∙ ap (cleared n) e₅ ∙ cleared_twice n w l f.sectors f.lanes mapped spare um us)
+  -- the course of blocks_once: what the two tests of the counts say together
+  pub claimed : (w₁ w₂ w₃ w₄ w₅ : List ℕ) (t o : Bool)
+      → w₁ ≡ replicate f.blocks 0 → w₂ ≡ counted w₁ f.lanes (free_of (layout_of d f) a) → t ≡ counts_between w₂ (length w₂) 0 1
+      → w₃ ≡ replicate (length w₂) 0 → w₄ ≡ counted w₃ f.sectors (map_block (layout_of d f) a)
+      → w₅ ≡ counted w₄ f.lanes (spare_of (layout_of d f) a) → o ≡ counts_between w₅ (length w₅) 1 1
+      → blocks_once (layout_of d f) a ≡ t && o
+  unfolding blocks_once layout_of
+  claimed w₁ w₂ w₃ w₄ w₅ t o p₁ p₂ pt p₃ p₄ p₅ po =
+      let n = f.blocks in
+      let mapped = map_block (layout_of d f) a in
+      let free = free_of (layout_of d f) a in
+      let spare = spare_of (layout_of d f) a in
+      let e₂ = p₂ ∙ ap (λ (x : List ℕ). counted x f.lanes free) p₁ in
+      let l₂ = ap length e₂ ∙ length-counted _ _ _ ∙ length-replicate n 0 in
+      let e₃ = p₃ ∙ ap (λ (x : ℕ). replicate x 0) l₂ in
+      let e₅ = p₅ ∙ ap (λ (x : List ℕ). counted x f.lanes spare) (p₄ ∙ ap (λ (x : List ℕ). counted x f.sectors mapped) e₃) in
+      let l₅ = ap length e₅ ∙ length-counted _ _ _ ∙ length-counted _ _ _ ∙ length-replicate n 0 in
+      let et = pt ∙ ap₂ (λ (x : List ℕ) (k : ℕ). counts_between x k 0 1) e₂ l₂ ∙ most_tell n f.lanes free free_under in
+      let eo = po ∙ ap₂ (λ (x : List ℕ) (k : ℕ). counts_between x k 1 1) e₅ l₅ ∙ once_tell n f.sectors f.lanes mapped spare mapped_under spare_under in
+      sym (ap₂ ◌&&◌ et eo)

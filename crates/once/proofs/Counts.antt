@@ -1,19 +1,20 @@
 -- After counting, a byte holds how often its number was met, 2 standing for more. So the bytes tell the counts.
 use mathlib.Core.Path.{◌≡◌, refl, sym, ap, ◌∙◌}
-use mathlib.Core.Bool.{Bool, true, false, cond, ◌&&◌, and-false, and-true}
-use mathlib.Core.List.{List, ◌++◌}
-use Prim.Native.Nat.{ℕ, zero, suc, ◌+◌, ◌≤◌, ◌<◌}
+use mathlib.Core.Bool.{Bool, true, false, cond, ◌&&◌}
+use mathlib.Core.List.{List}
+use Prim.Native.Nat.{ℕ, zero, suc, ◌+◌, ◌<◌}
 use native.Mathlib.Omega.{arith}
 use native.Mathlib.Numerals.{add-one}
-use native.Mathlib.Nat.{lt_of_lt_of_le}
 use lib.Dec.{eqb, leb}
-use lib.ListN.{length, get_or, drop, replicate, length-set, length-replicate, length-append, length-drop, get_or-replicate, get_or-append}
-use lib.Seq.{get_or-set_same, get_or-set_other, drop-set-lt, drop_at}
-use borrow.Author.Tests.{eqb-true, eqb-false, ne_eqb, le-leb, lt-leb}
+use lib.ListN.{length, get_or, replicate, length-set, length-replicate, get_or-replicate}
+use lib.Seq.{get_or-set_same, get_or-set_other}
+use borrow.Author.Tests.{eqb-true, eqb-false, ne_eqb, lt-leb}
+use Rattle.std.specs.Bool.{MatchBool}
+use Rattle.std.specs.List.{AllWithin, HoldsAt}
 use Rattle.format.specs.Tests.{every}
-use Rattle.format.proofs.Tests.{every_zero, every_step, every_fails, every_same}
+use Rattle.format.proofs.Tests.{every_intro, every_fails, every_same}
 use Rattle.machine.specs.calls.Opening.{count}
-use Rattle.once.specs.Once.{cleared, bumped, counted, counts_between, Under}
+use Rattle.once.specs.Once.{bumped, counted, counts_between, Under}
 
 -- 0, 1, and 2 for more
 abbrev capped : ℕ → ℕ
@@ -57,10 +58,6 @@ pub counted_more : (w v u : List ℕ) (n x : ℕ) (f : ℕ → ℕ) → v ≡ co
 unfolding counted
 counted_more w v u n x f p q r = rw (add-one, ← p, ← q) r
 
--- what the turn asks: the next value is a place of the buffer
-pub count_inside : (w v : List ℕ) (n m x : ℕ) (f : ℕ → ℕ) → v ≡ counted w n f → m ≤ length w → f n < m → x ≡ f n → x < length v
-count_inside w v n m x f p l h e = omega (arith, ap length p, length-counted w n f)
-
 bump_same : (w : List ℕ) (x : ℕ) → x < length w → get_or (bumped w x) x 0 ≡ cond (eqb (get_or w x 0) 0) 1 2
 unfolding bumped
 bump_same w x h = get_or-set_same w x _ 0 h
@@ -91,70 +88,39 @@ get_d_counted w (suc n) f b k h e = by_cases (eqb b (f n)) refl (get_d_counted w
         let z : k + (count n f b + 0) ≡ k + count n f b = omega arith in
         rw z (bump_other (counted w n f) (f n) b (eqb-false b (f n) q) ∙ before)
 
--- counting leaves the bytes past the values alone
-drop-counted : (w : List ℕ) (n : ℕ) (f : ℕ → ℕ) (m : ℕ) → Under f n m → drop m (counted w n f) ≡ drop m w
-unfolding counted bumped
-drop-counted w zero f m h = refl
-drop-counted w (suc n) f m h =
-    drop-set-lt m (counted w n f) (f n) _ (h n (omega arith)) ∙ drop-counted w n f m (λ i p. h i (omega arith))
-
--- a cleared buffer
-module _ (m : ℕ) (w : List ℕ) (l : m ≤ length w) where
-  cleared-length : m ≤ length (cleared m w)
-  cleared-length = simp (length-append, length-replicate, length-drop) (omega arith)
-
-  cleared_zero : (b : ℕ) → b < m → get_or (cleared m w) b 0 ≡ 0
-  cleared_zero b p = get_or-append (replicate m 0) (drop m w) 0 b (rw length-replicate p) ∙ get_or-replicate m b 0 0 p
-
-  inside_cleared : (n : ℕ) (f : ℕ → ℕ) → Under f n m → Under f n (length (cleared m w))
-  inside_cleared n f h i p = lt_of_lt_of_le (h i p) cleared-length
+-- m zeroes
+module _ (m : ℕ) where
+  pub inside : (n : ℕ) (f : ℕ → ℕ) → Under f n m → Under f n (length {A = ℕ} (replicate m 0))
+  inside n f h i p = rw length-replicate (h i p)
 
   -- the bytes after one round
-  get_d_once : (n : ℕ) (f : ℕ → ℕ) → Under f n m → (b : ℕ) → b < m → get_or (counted (cleared m w) n f) b 0 ≡ capped (count n f b)
+  get_d_once : (n : ℕ) (f : ℕ → ℕ) → Under f n m → (b : ℕ) → b < m → get_or (counted (replicate m 0) n f) b 0 ≡ capped (count n f b)
   get_d_once n f h b p =
       let z : 0 + count n f b ≡ count n f b = omega arith in
-      rw z at (get_d_counted (cleared m w) n f b 0 (inside_cleared n f h) (cleared_zero b p))
+      rw z at (get_d_counted (replicate m 0) n f b 0 (inside n f h) (get_or-replicate m b 0 0 p))
 
   -- one round: the bytes are at most 1 where the counts are
-  pub most_tell : (n : ℕ) (f : ℕ → ℕ) → Under f n m → counts_between (counted (cleared m w) n f) m 0 1 ≡ every m (λ b. leb (count n f b) 1)
+  pub most_tell : (n : ℕ) (f : ℕ → ℕ) → Under f n m → counts_between (counted (replicate m 0) n f) m 0 1 ≡ every m (λ b. leb (count n f b) 1)
   unfolding counts_between
   most_tell n f h = every_same m _ _ (λ b p. ap (λ (x : ℕ). leb 0 x && leb x 1) (get_d_once n f h b p) ∙ capped_most (count n f b))
 
   -- two rounds: the bytes are 1 where the counts are 1 together
   pub once_tell : (n k : ℕ) (f g : ℕ → ℕ) → Under f n m → Under g k m
-      → counts_between (counted (counted (cleared m w) n f) k g) m 1 1 ≡ every m (λ b. eqb (count n f b + count k g b) 1)
+      → counts_between (counted (counted (replicate m 0) n f) k g) m 1 1 ≡ every m (λ b. eqb (count n f b + count k g b) 1)
   unfolding counts_between
   once_tell n k f g h j = every_same m _ _ (λ b p.
       ap (λ (x : ℕ). leb 1 x && leb x 1)
-      (get_d_counted (counted (cleared m w) n f) k g b (count n f b) (rw length-counted (inside_cleared k g j)) (get_d_once n f h b p))
+      (get_d_counted (counted (replicate m 0) n f) k g b (count n f b) (rw length-counted (inside k g j)) (get_d_once n f h b p))
       ∙ capped_one (count n f b + count k g b))
 
-  pub cleared_again : (n : ℕ) (f : ℕ → ℕ) → Under f n m → cleared m (counted (cleared m w) n f) ≡ cleared m w
-  cleared_again n f h = ap (λ (x : List ℕ). replicate m 0 ++ x)
-      (drop-counted (cleared m w) n f m h ∙ drop_at (replicate m 0) (drop m w) m (length-replicate m 0))
-
-  pub cleared_twice : (n k : ℕ) (f g : ℕ → ℕ) → Under f n m → Under g k m
-      → cleared m (counted (counted (cleared m w) n f) k g) ≡ cleared m w
-  cleared_twice n k f g h j =
-      ap (λ (x : List ℕ). replicate m 0 ++ x) (drop-counted (counted (cleared m w) n f) k g m j) ∙ cleared_again n f h
-
--- a turn of the loop that tests the bytes
+-- what a search over the bytes tells
 module _ (w : List ℕ) (low high : ℕ) where
-  abbrev within : ℕ → Bool
-  within b = leb low (get_or w b 0) && leb (get_or w b 0) high
+  abbrev pub within : ℕ → Bool
+  within x = leb low x && leb x high
 
-  pub between_none : true ≡ counts_between w 0 low high
+  pub tells : (r : Bool)
+      → MatchBool r (AllWithin (λ x. within x ≡ true) w 0 (length w)) ((k : ℕ) × (k < length w) × HoldsAt (λ x. within x ≡ false) w k)
+      → r ≡ counts_between w (length w) low high
   unfolding counts_between
-  between_none = sym (every_zero within)
-
-  pub count_low : (i : ℕ) → get_or w i 0 < low → false ≡ counts_between w (i + 1) low high
-  unfolding counts_between
-  count_low i p = sym (every_fails (i + 1) within i (omega arith) (rw (lt-leb low (get_or w i 0) p)))
-
-  pub count_high : (i : ℕ) → high < get_or w i 0 → false ≡ counts_between w (i + 1) low high
-  unfolding counts_between
-  count_high i p = sym (every_fails (i + 1) within i (omega arith) (rw (lt-leb (get_or w i 0) high p, and-false)))
-
-  pub between_more : (i : ℕ) → low ≤ get_or w i 0 → get_or w i 0 ≤ high → counts_between w i low high ≡ counts_between w (i + 1) low high
-  unfolding counts_between
-  between_more i p q = rw (add-one, every_step, le-leb low (get_or w i 0) p, le-leb (get_or w i 0) high q, and-true)
+  tells true h = sym (every_intro (length w) _ (λ k p. h k 0 (omega arith) p))
+  tells false h = sym (every_fails (length w) _ h.0 h.1 (h.2 0))

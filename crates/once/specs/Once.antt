@@ -1,11 +1,9 @@
 -- Counts in a work buffer: how often each number was met, counted 0, 1, 2 and no further; and what two rounds of counting decide.
-use Rattle.std.specs.Prelude.{Bool, cond, ◌&&◌, List, ◌++◌, ℕ, zero, suc, ◌+◌, ◌<◌, eqb, leb, length, get_or, set, drop, replicate}
+use Rattle.std.specs.Prelude.{Bool, cond, ◌&&◌, List, ◌++◌, ℕ, zero, suc, ◌+◌, ◌<◌, eqb, leb, get_or, set, drop, replicate}
 use Rattle.format.specs.Tests.{every}
-use Rattle.layout.specs.Place.{Layout, layout_of}
-use Rattle.layout.specs.declared.Figures.{Figures}
+use Rattle.layout.specs.Place.{Layout}
 use Rattle.machine.specs.state.Flog.{map_block, free_of, spare_of}
 use Rattle.machine.specs.calls.Opening.{count}
-use Rattle.lanes.specs.Fit.{MapFit}
 
 -- n zeroes, and the rest as it was
 abbrev pub cleared : ℕ → List ℕ → List ℕ
@@ -24,23 +22,12 @@ counted w (suc n) f = bumped (counted w n f) (f n)
 unfoldable pub counts_between : List ℕ → ℕ → ℕ → ℕ → Bool
 counts_between w n low high = every n (λ b. leb low (get_or w b 0) && leb (get_or w b 0) high)
 
--- a lane's spare block or its free block
-abbrev pub lane_block : Bool → Layout → List ℕ → ℕ → ℕ
-lane_block spare g a l = cond spare (spare_of g a l) (free_of g a l)
-
 -- every block is claimed once: free blocks are distinct, and the mapped blocks as found with the lanes' spare blocks are each block once
 unfoldable pub blocks_once : Layout → List ℕ → Bool
 blocks_once g a =
     every g.I (λ b. leb (count g.N (free_of g a) b) 1)
     && every g.I (λ b. eqb (count g.E (map_block g a) b + count g.N (spare_of g a) b) 1)
 
--- ---- what counting asks, and its callers show
-
 -- the first n values of f are below m
 abbrev pub Under : (ℕ → ℕ) → ℕ → ℕ → Type 0
 Under f n m = (i : ℕ) → i < n → f i < m
-
--- the map lies inside the arena, and its blocks are there
-pub record MapUnder (f : Figures) (a : List ℕ) : Type 0 where
-  pub fit : MapFit f (length a)
-  pub under : (d : ℕ) → Under (map_block (layout_of d f) a) f.sectors f.blocks
