@@ -8,20 +8,16 @@ ghost use Rattle.lanes.specs.Filled.{LanesFit, filled_by};
 ghost use Rattle.seen.specs.Seen.{seen_of};
 
 use format::numbers::{LaneNo, SectorNo};
+use lanes::ArenaView;
 use machine::handle::Handle;
 use machine::lane::Lane;
-use seen::{Seen, also_flies, judged, out_of_range, place_of, seen_of};
-
-mod record;
+use seen::{Seen, also_flies, judged, out_of_range, seen_of};
 
 // A record of the table; past its end, the record of all zeroes.
 pub fn lane_at(table: &[Lane], i: usize) -> Lane
     ensures { result ≡ lane_at table.now i }
 {
-    if table.len() <= i {
-        return Lane::none();
-    }
-    table[i]
+    table.get(i).copied().unwrap_or(Lane::none())
 }
 
 // Stores a record; past the end of the table, nothing.
@@ -39,18 +35,16 @@ pub fn look(table: &[Lane], h: Handle, lane: LaneNo, sector: SectorNo) -> Seen
 {
     let n = table.len();
     let end = judged(h, n);
+    let own = lane_at(table, lane.0 as usize);
     let mut flying = false;
-    let mut i: usize = 0;
-    while i < end {
+    for i in 0..end {
         let r = table[i];
         if out_of_range(h, r) {
-            break;
+            return seen_of(n, end, i, flying, own);
         }
         flying = also_flies(flying, r, sector);
-        i += 1;
     }
-    let own = lane_at(table, place_of(lane));
-    seen_of(n, end, i, flying, own)
+    seen_of(n, end, end, flying, own)
 }
 
 // Fills the lanes' records of an opened arena, each read off the flog; those past the lanes are left alone.
@@ -58,11 +52,12 @@ pub fn fill(table: &mut [Lane], arena: &[u8], h: Handle)
     requires { LanesFit h arena.now × (h.figures.lanes ≤ length table.old) }
     ensures { table.new ≡ filled_by h arena.now table.old }
 {
-    let end = judged(h, table.len());
-    let mut i: usize = 0;
-    while i < end {
-        let r = record::found_at(arena, h, i);
-        table[i] = r;
-        i += 1;
+    for l in 0..h.figures.lanes {
+        let view = ArenaView {
+            bytes: arena,
+            figures: h.figures,
+            distance: h.distance,
+        };
+        table[l as usize] = view.found_lane(LaneNo(l));
     }
 }

@@ -3,13 +3,10 @@ use native.Mathlib.Omega.{arith}
 use Rattle.table.proofs.Laws.{filled_none, filled_more}
 use Rattle.table.proofs.fill.Goals as goal
 
-pub loop-i-init : goal.loop-i-init
-loop-i-init c = record { in_range = omega arith; filled = filled_none c.args.h c.args.arena.now c.args.table.now }
+pub loop-l-init : goal.loop-l-init
+loop-l-init c = filled_none c.args.h c.args.arena.now c.args.table.now
 
-pub loop-i-preserved : goal.loop-i-preserved
-loop-i-preserved c =
-    record {
-      in_range = omega arith;
-      filled = rw (c.found_at-r.ensures, c.loop-i.invariant.filled)
-          (filled_more c.args.h c.args.arena.now c.args.table.now c.loop-i.i (omega (arith, c.judged-end.ensures.1)));
-    }
+pub loop-l-preserved : goal.loop-l-preserved
+loop-l-preserved c =
+    rw (c.found_lane.ensures, c.loop-l.invariant)
+    (filled_more c.args.h c.args.arena.now c.args.table.now c.loop-l.l (omega arith))

@@ -1,17 +1,12 @@
 -- `table::look` meets its contract. The loop's invariant: the first i records are in range, and flying says whether one of them has the sector in flight.
 use mathlib.Core.Path.{◌≡◌}
 use mathlib.Core.Bool.{true}
-use Prim.Native.Nat.{◌-◌, ◌≤◌}
 use Rattle.machine.specs.calls.Judging.{in_flight}
 use Rattle.seen.specs.Seen.{sound_to}
 use Rattle.table.proofs.look.Given as goal
 
 abbrev pub invariant-loop-i : goal.invariant-loop-i
 invariant-loop-i l = record {
-  in_range : l.i ≤ l.end;
   sound : sound_to l.h l.table l.i ≡ true;
   flies : l.flying ≡ in_flight l.table l.i l.sector.0;
 }
-
-abbrev pub decreases-loop-i : goal.decreases-loop-i
-decreases-loop-i l = l.end - l.i
