@@ -33,6 +33,7 @@ use Rattle.machine.specs.calls.Opening.{
 }
 use Rattle.machine.proofs.opening.Mends.{length-mends}
 use Rattle.judge.specs.Judge.{extent, work_left}
+use Rattle.arena.specs.Calls.{cut_gave}
 
 -- there are at most as many pending lanes as lanes
 pending_most : (g : Layout) (a : List ℕ) (n : ℕ) → pending_lanes g a n ≤ n
@@ -44,10 +45,6 @@ pending_most g a (suc n) = go (pending g a n) (pending_most g a n)
     go true u = omega arith
     go false u = omega arith
 
--- what a cut opening leaves
-abbrev pub outcome : ℕ → ℕ → List ℕ → List ℕ → List Lane → Opening
-outcome n count arena left table = record { number = n; mended = count; arena = arena; handle = no_handle table; work = left }
-
 -- a table of so many records, and what judging gave of its length
 module _ (t : Told) (a : List ℕ) (room : Room) (records k n : ℕ) (left : List ℕ) (long : length room.table ≡ records)
     (e : n ≡ open_number t a (extent (length room.work) records)) (w : left ≡ work_left t a room.work) where
@@ -58,14 +55,14 @@ module _ (t : Told) (a : List ℕ) (room : Room) (records k n : ℕ) (left : Lis
   unfolding work_after answer
   work_is = w
 
-  pub cut-refused : eqb n 0 ≡ false → outcome n 0 a left room.table ≡ cut_open_of t a room k
+  pub cut-refused : eqb n 0 ≡ false → cut_gave n 0 a left room.table ≡ cut_open_of t a room k
   unfolding cut_open_of
   cut-refused z = rw (← number_is, ← work_is, z)
 
   pub cut_done : eqb n 0 ≡ true → (f : Figures) → f ≡ figures_in a → (count : ℕ) (after : List ℕ)
       → count ≡ pending_lanes (layout_of t.distance f) a f.lanes
       → after ≡ put_all (layout_of t.distance f) (take k (mends (layout_of t.distance f) a f.lanes)) a
-      → outcome 0 count after left room.table ≡ cut_open_of t a room k
+      → cut_gave 0 count after left room.table ≡ cut_open_of t a room k
   unfolding cut_open_of layout_of
   cut_done z f fe count after ce ae = rw (ce, ae, fe, ← number_is, ← work_is, eqb-true n 0 z)
 

@@ -1,5 +1,6 @@
 -- An opening by what judging and mending gave: an accepted arena can be mended, and the mended one's lanes can be read and fill the table.
 use mathlib.Core.Path.{◌≡◌, sym, ap, ◌∙◌, subst}
+use Rattle.std.proofs.Common.{Ok, Err}
 use mathlib.Core.Bool.{true, false}
 use mathlib.Core.List.{List}
 use Prim.Native.Nat.{ℕ, ◌≤◌}
@@ -17,6 +18,8 @@ use Rattle.layout.specs.declared.Figures.{Figures}
 use Rattle.layout.specs.declared.Told.{Told}
 use Rattle.machine.specs.declared.handle.Handle as bare
 use Rattle.machine.specs.declared.lane.Lane.{Lane}
+use Rattle.machine.specs.declared.refusal.Refusal.{Refusal}
+use Rattle.machine.specs.state.Answer.{refusal_number}
 use Rattle.machine.specs.state.Flog.{map_word}
 use Rattle.machine.specs.state.Handle.{Handle, bare_of, zero_handle}
 use Rattle.machine.specs.state.Lane.{no_lane}
@@ -35,6 +38,7 @@ use Rattle.machine.specs.calls.Opening.{
   open_of,
   handle_for,
 }
+use Rattle.machine.proofs.Refusals.{not_zero}
 use Rattle.machine.proofs.stores.Stores.{put_all-length}
 use Rattle.machine.proofs.opening.Ghosts.{Consistent}
 use Rattle.machine.proofs.opening.Consistent.{consistent_kept, found_kept}
@@ -43,19 +47,19 @@ use Rattle.machine.proofs.invariant.Tidy.{of_tidy}
 use Rattle.lanes.specs.Fit.{AllFit}
 use Rattle.lanes.specs.Filled.{LanesFit, filled_by}
 use Rattle.lanes.proofs.Lanes.{lane_fit}
-use Rattle.judge.specs.Judge.{extent, judged_figures}
+use Rattle.judge.specs.Judge.{extent}
 use Rattle.judge.proofs.Rules.{described_fit}
 use Rattle.mend.specs.Mend.{Mendable}
-use Rattle.arena.specs.Calls.{ForTable, OpenGives}
-use Rattle.arena.proofs.Cut.{outcome, open_refused, open_done}
+use Rattle.arena.specs.Calls.{ForTable, cut_gave, OpenGives}
+use Rattle.arena.proofs.Cut.{open_refused, open_done}
 
 module _ (t : Told) (a : List ℕ) (room : Extent) (n : ℕ) (f : Figures) (e : n ≡ open_number t a room) (z : eqb n 0 ≡ true)
-    (fe : f ≡ judged_figures (open_number t a room) a) where
+    (fe : f ≡ figures_in a) where
   passed : Opens t a × Enough t a room
   passed = open_zero t a room (sym e ∙ eqb-true n 0 z)
 
   pub figures_are : f ≡ figures_in a
-  figures_are = fe ∙ rw (← e, z)
+  figures_are = fe
 
   fits : Fit t.distance f (length a)
   fits = rw figures_are (described_fit t a passed.0.info)
@@ -113,7 +117,7 @@ module _ (t : Told) (a : List ℕ) (room : Extent) (n : ℕ) (f : Figures) (e : 
 
 -- an opening's result from that of the cut opening it goes through, which is told to make every store
 module _ (t : Told) (a work after left : List ℕ) (records n count : ℕ)
-    (c : ForTable work records (λ room. outcome n count after left room.table ≡ cut_open_of t a room max_lanes)) where
+    (c : ForTable work records (λ room. cut_gave n count after left room.table ≡ cut_open_of t a room max_lanes)) where
   abbrev given : List Lane → Room
   given table = record { work = work; table = table }
 
@@ -128,15 +132,16 @@ module _ (t : Told) (a work after left : List ℕ) (records n count : ℕ)
   unfolding cut_open_of
   number_is = ap (λ (o : Opening). o.number) (c some-table long) ∙ ap (λ (m : ℕ). open_number t a (extent (length work) m)) long
 
-  pub refuses : eqb n 0 ≡ false
-      → ForTable work records (λ room. OpenGives (record { number = n; mended = count; handle = zero_handle }) after left room.table (open_of t a room))
+  pub refuses : (r : Refusal) → n ≡ refusal_number r → count ≡ 0
+      → ForTable work records (λ room. OpenGives (Err r) after left room.table (open_of t a room))
   unfolding found_lanes
-  refuses z table u =
+  refuses r nr none table u =
+      let z : eqb n 0 ≡ false = ap (λ (m : ℕ). eqb m 0) nr ∙ not_zero r in
       let p = c table u in
       let q = p ∙ open_refused t a (given table) max_lanes (λ y. eqb-false n 0 z (ap (λ (o : Opening). o.number) p ∙ y)) in
       record {
-        number = ap (λ (o : Opening). o.number) q;
-        mended = ap (λ (o : Opening). o.mended) q;
+        number = sym nr ∙ ap (λ (o : Opening). o.number) q;
+        mended = sym none ∙ ap (λ (o : Opening). o.mended) q;
         arena = ap (λ (o : Opening). o.arena) q;
         handle = ap (λ (o : Opening). bare_of o.handle) q;
         table = ap (λ (o : Opening). o.handle.table) q;
@@ -144,7 +149,7 @@ module _ (t : Told) (a work after left : List ℕ) (records n count : ℕ)
       }
 
   module _ (z : eqb n 0 ≡ true) (small : Small a) (f : Figures)
-      (fe : f ≡ judged_figures (open_number t a (extent (length work) records)) a) where
+(fe : f ≡ figures_in a) where
     abbrev room : Extent
     room = extent (length work) records
 
@@ -152,12 +157,12 @@ module _ (t : Told) (a work after left : List ℕ) (records n count : ℕ)
     abbrev opened : List Lane → Opening → Opening
     opened table o = record { number = o.number; mended = o.mended; arena = o.arena; handle = handle_for t a table; work = o.work }
 
-    done : (table : List Lane) → length table ≡ records → opened table (outcome 0 count after left table) ≡ open_of t a (given table)
+    done : (table : List Lane) → length table ≡ records → opened table (cut_gave 0 count after left table) ≡ open_of t a (given table)
     done table u =
         let are = figures_are t a room n f number_is z fe in
         let m = mendable t a room n f number_is z fe in
         let most : (layout_in t a).N ≤ max_lanes = unfold layout_of in (rw are at m.all.fit.few) in
-        let p : outcome 0 count after left table ≡ cut_open_of t a (given table) max_lanes = rw (eqb-true n 0 z) at (c table u) in
+        let p : cut_gave 0 count after left table ≡ cut_open_of t a (given table) max_lanes = rw (eqb-true n 0 z) at (c table u) in
         ap (opened table) p ∙ open_done t a (given table) max_lanes (ap (λ (o : Opening). o.number) (sym p)) most
 
     after_is : after ≡ mended (layout_of t.distance f) a
@@ -177,7 +182,7 @@ module _ (t : Told) (a work after left : List ℕ) (records n count : ℕ)
         rw e (lane_fit t.distance f after fit, few t a room n f number_is z fe)
 
     pub accepts : (h : bare.Handle) → h ≡ record { length = length after; distance = t.distance; figures = f }
-        → ForTable work records (λ room. OpenGives (record { number = 0; mended = count; handle = h }) after left room.table (open_of t a room))
+        → ForTable work records (λ room. OpenGives (Ok (record { mended = count; handle = h })) after left room.table (open_of t a room))
     accepts h e table u =
         let q = done table u in
         let gave = ap (λ (o : Opening). o.handle) q in

@@ -1,15 +1,19 @@
 -- What a table that rules 16 and 21 let pass gives a write, and what a judged start or step gives, refused and not.
-use mathlib.Core.Path.{◌≡◌, sym, ap, ◌∙◌}
+use mathlib.Core.Path.{◌≡◌, sym, ◌∙◌}
+use Rattle.std.proofs.Common.{Ok, Err}
 use mathlib.Core.Logic.{⊎_elim}
-use mathlib.Core.Bool.{true, false}
+use mathlib.Core.Bool.{true}
 use mathlib.Core.List.{List}
 use Prim.Native.Nat.{ℕ, ◌+◌, ◌/◌, ◌<◌}
 use native.Mathlib.Omega.{arith}
 use lib.Dec.{eqb}
 use lib.ListN.{length, replicate, length-replicate}
-use borrow.Author.Tests.{eq-eqb, eqb-true}
+use borrow.Author.Tests.{eq-eqb}
 use Rattle.layout.specs.Place.{layout_of}
 use Rattle.machine.specs.Rules.{answer}
+use Rattle.machine.specs.declared.refusal.Refusal.{Refusal}
+use Rattle.machine.specs.state.Answer.{refusal_number}
+use Rattle.machine.proofs.Refusals.{not_zero}
 use Rattle.machine.specs.state.Flog.{map_block}
 use Rattle.machine.specs.state.Handle.{Handle, with, lane_at, laid_out}
 use Rattle.machine.specs.state.Lane.{started_lane}
@@ -24,8 +28,8 @@ use Rattle.machine.proofs.calls.Running.{records_ok, handle_fit}
 use Rattle.stores.specs.Record.{RecordFit}
 use Rattle.seen.specs.declared.Seen.{Seen}
 use Rattle.seen.specs.Seen.{seen_of, moved}
-use Rattle.seen.proofs.Laws.{seen_length, seen_own, kept_past}
-use Rattle.writing.specs.Gave.{refusal, WriteGives}
+use Rattle.seen.proofs.Laws.{seen_own}
+use Rattle.writing.specs.Gave.{WriteGives}
 
 -- ---- what rules 16 and 21 give
 
@@ -65,55 +69,44 @@ module _ (a : List ℕ) (h : bare.Handle) (t : List Lane) (l s : ℕ) (seen : Se
   abbrev k : Handle
   k = with h t
 
-  -- a refusal leaves the table
-  pub unmoved : (n : ℕ) → moved k (refusal n seen) a ≡ record { number = n; arena = a; handle = k }
-  unmoved n =
-      ap (λ (x : Handle). record { number = n; arena = a; handle = x })
-      (kept_past k seen.length seen.own (omega (arith, seen_length a h t l s seen e)))
+  -- the number of a start that is judged as a write whose buffer fits
+  judged : (n : ℕ) → WriteGives a k l s true n → n ≡ start_number a k l s
+  judged n given =
+      let z = replicate {A = ℕ} h.figures.size 0 in
+      let f = eq-eqb (length z) h.figures.size (length-replicate h.figures.size 0) in
+      given z (sym f) ∙ write_start a k l s z f
 
-  -- a start, judged as a write whose buffer fits
-  module _ (n : ℕ) (given : WriteGives a k l s true n) where
-    judged : n ≡ start_number a k l s
-    judged =
-        let z = replicate {A = ℕ} h.figures.size 0 in
-        let f = eq-eqb (length z) h.figures.size (length-replicate h.figures.size 0) in
-        given z (sym f) ∙ write_start a k l s z f
+  pub start_refused : (r : Refusal) → WriteGives a k l s true (refusal_number r) → moved k l (Err r) a ≡ start_of a k l s
+  unfolding start_of
+  start_refused r given = rw (← judged (refusal_number r) given, not_zero r)
 
-    pub start_refused : eqb n 0 ≡ false → moved k (refusal n seen) a ≡ start_of a k l s
+  module _ (given : WriteGives a k l s true 0) where
+    number : start_number a k l s ≡ 0
+    number = sym (judged 0 given)
+
+    pub start_done : moved k l (Ok (started_lane seen.own s (map_block (laid_out k) a s))) a ≡ start_of a k l s
     unfolding start_of
-    start_refused z = unmoved n ∙ rw (← judged, z)
+    start_done = rw (number, seen_own a h t l s seen e)
 
-    module _ (ok : eqb n 0 ≡ true) where
-      number : start_number a k l s ≡ 0
-      number = sym judged ∙ eqb-true n 0 ok
-
-      pub start_done :
-          moved k (record { number = 0; at = l; own = started_lane seen.own s (map_block (laid_out k) a s) }) a ≡ start_of a k l s
-      unfolding start_of
-      start_done = rw (number, seen_own a h t l s seen e)
-
-      pub start_passed : StartFound a k l s
-      start_passed = start_found a k l s number
+    pub start_passed : StartFound a k l s
+    start_passed = start_found a k l s number
 
   -- a step
-  module _ (buffer : List ℕ) (n : ℕ) (given : n ≡ step_number a k l buffer) where
-    pub step_refused : eqb n 0 ≡ false → moved k (refusal n seen) a ≡ step_of a k l buffer
+  module _ (buffer : List ℕ) where
+    pub step_refused : (r : Refusal) → refusal_number r ≡ step_number a k l buffer → moved k l (Err r) a ≡ step_of a k l buffer
     unfolding step_of
-    step_refused z = unmoved n ∙ rw (← given, z)
+    step_refused r given = rw (← given, not_zero r)
 
-    module _ (ok : eqb n 0 ≡ true) where
-      accepted : step_number a k l buffer ≡ 0
-      accepted = sym given ∙ eqb-true n 0 ok
-
+    module _ (given : 0 ≡ step_number a k l buffer) where
       pub step_passed : StepFound a k l buffer
-      step_passed = step_found a k l buffer accepted
+      step_passed = step_found a k l buffer (sym given)
 
       pub step_done :
-          moved k (record { number = 0; at = l; own = lane_stored (laid_out k) seen.own })
+          moved k l (Ok (lane_stored (laid_out k) seen.own))
           (stored (laid_out k) (store_at (laid_out k) (plan_of l seen.own) buffer seen.own.made) a)
           ≡ step_of a k l buffer
       unfolding step_of
-      step_done = rw (accepted, seen_own a h t l s seen e)
+      step_done = rw (← given, seen_own a h t l s seen e)
 
       pub own_fit : RecordFit h.figures l seen.own seen.own.made
       own_fit = next_fit a k step_passed.judged l step_passed.lane seen.own (seen_own a h t l s seen e)

@@ -107,14 +107,13 @@ fn judge_step(
     ensures { Every h lane.0 0 seen (λ k. number_of result ≡ step_number arena.now k lane.0 buffer.now) }
 {
     judge_table(arena.len(), h, seen)?;
-    let f = h.figures;
-    if f.lanes <= lane.0 {
+    if h.figures.lanes <= lane.0 {
         return Err(Refusal::NoSuchLane);
     }
     if !seen.own.is_busy() {
         return Err(Refusal::LaneIdle);
     }
-    if buffer.len() != f.size as usize {
+    if buffer.len() != h.figures.size as usize {
         return Err(Refusal::WrongBuffer);
     }
     Ok(())

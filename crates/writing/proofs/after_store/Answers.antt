@@ -8,6 +8,6 @@ pub returns-then-r-f : goal.returns-then-r-f
 unfolding layout_of
 returns-then-r-f c = λ d. c.finished.ensures ∙ sym (stored_last _ _ c.if-r-f.true)
 
-pub returns : goal.returns
+pub returns-else-r-f : goal.returns-else-r-f
 unfolding layout_of
-returns c = λ d. c.stored.ensures ∙ sym (stored_more _ _ c.if-r-f.false)
+returns-else-r-f c = λ d. c.stored.ensures ∙ sym (stored_more _ _ c.if-r-f.false)

@@ -3,9 +3,8 @@ use mathlib.Core.Path.{◌∙◌}
 use Rattle.lanes.proofs.Lanes.{map_fit}
 use Rattle.writing.proofs.begun.Goals as goal
 
-pub map_block-old-requires : goal.map_block-old-requires
-map_block-old-requires c = (map_fit _ _ _ c.requires.0, c.requires.1)
+pub map_block-requires : goal.map_block-requires
+map_block-requires c = (map_fit _ _ _ c.requires.0, c.requires.1)
 
 pub returns : goal.returns
-returns c =
-    c.start.ensures ∙ rw (c.map_block-old.ensures c.args.h.distance)
+returns c = c.start.ensures ∙ rw (c.map_block.ensures c.args.h.distance)

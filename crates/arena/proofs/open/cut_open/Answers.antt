@@ -2,5 +2,4 @@
 use Rattle.arena.proofs.open.cut_open.Goals as goal
 
 pub returns : goal.returns
-returns c =
-    rw c.alone.ensures at c.judge_and_mend-m.ensures.for_table
+returns c = ?
