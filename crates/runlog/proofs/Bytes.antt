@@ -1,19 +1,18 @@
 -- A record is found exactly where its bytes stand: the bytes at an offset one by one, and the numbers that two and four of them make.
-use mathlib.Core.Path.{◌≡◌, refl, sym, ap, ◌∙◌}
-use mathlib.Core.Logic.{◌≢◌}
+use mathlib.Core.Path.{◌≡◌, refl, sym, ap, ◌∙◌, subst}
 use mathlib.Core.List.{List, [], ◌∷◌}
 use Prim.Native.Nat.{ℕ, zero, suc, ◌+◌, ◌*◌, ◌/◌, ◌%◌, ◌≤◌, ◌<◌}
 use native.Mathlib.Omega.{arith}
 use native.Mathlib.Nat.{div-div-eq-div-mul, mod-eq_of_lt}
 use lib.ListN.{length, get_or, take, drop, length-take, length-drop}
 use lib.Seq.{drop-cons}
+use Rattle.std.specs.Prelude.{Some}
 use Rattle.words.specs.Bytes.{byte_word}
 use Rattle.runlog.specs.declared.record.Record.{Record}
-use Rattle.runlog.specs.declared.record.Record.TheVariants.{Start, Step, Cut, Refused}
+use Rattle.runlog.specs.declared.record.Record.TheVariants.{Start, Step, Cut}
 use Rattle.runlog.specs.Record.{byte_half, record_at}
 use Rattle.runlog.specs.Claims.{four_bytes, bytes_of, Fits, StandsAt}
-use Rattle.runlog.proofs.Laws.{record_cases}
-use Rattle.runlog.proofs.Outcomes.{record_named}
+use Rattle.runlog.proofs.Laws.{record_cases, record_named}
 
 -- n bytes from byte k after an offset on
 abbrev bytes_from : List ℕ → ℕ → ℕ → ℕ → List ℕ
@@ -95,23 +94,22 @@ sector-of log at sector h e =
     omega (arith, word-plus log at 6, four_made sector h)
 
 -- a record is found where its bytes stand
-pub found_at : (log : List ℕ) (at : ℕ) (r : Record) → Fits r → StandsAt log at r → record_at log at ≡ r
+pub found_at : (log : List ℕ) (at : ℕ) (r : Record) → Fits r → StandsAt log at r → record_at log at ≡ Some r
 found_at log at (Start lane sector) f s =
     let room = room-of 9 log at (bytes_of (Start lane sector)) s refl in
     let h = head_of log at 10 1 _ _ (sym (bytes-at 9 log at room) ∙ s) in
     let l = lane_of log at lane.0 _ _ f.0 h.2 in
     let w = sector-of log at sector.0 f.1 l.1 in
-    sym (record_named log at 10 1 (Start lane sector) h.0 h.1 (omega arith) room (rw (← l.0, ← w)))
+    sym (record_named log at 10 1 (Some (Start lane sector)) h.0 h.1 (omega arith) room (rw (← l.0, ← w)))
 found_at log at (Step lane) f s =
     let room = room-of 5 log at (bytes_of (Step lane)) s refl in
     let h = head_of log at 6 2 _ _ (sym (bytes-at 5 log at room) ∙ s) in
     let l = lane_of log at lane.0 _ _ f h.2 in
-    sym (record_named log at 6 2 (Step lane) h.0 h.1 (omega arith) room (rw (← l.0)))
+    sym (record_named log at 6 2 (Some (Step lane)) h.0 h.1 (omega arith) room (rw (← l.0)))
 found_at log at Cut f s =
     let room = room-of 3 log at (bytes_of Cut) s refl in
     let h = head_of log at 4 3 _ _ (sym (bytes-at 3 log at room) ∙ s) in
-    sym (record_named log at 4 3 Cut h.0 h.1 (omega arith) room refl)
-found_at log at Refused f s = absurd f
+    sym (record_named log at 4 3 (Some Cut) h.0 h.1 (omega arith) room refl)
 
 -- bytes that make a head with a length and a kind below 256, and bytes that make a lane, and a sector
 head_bytes : (log : List ℕ) (at n k : ℕ) (xs ys : List ℕ) → n < 256 → k < 256 → byte_half log at ≡ n → byte_half log (at + 2) ≡ k → xs ≡ ys
@@ -135,16 +133,19 @@ module _ (log : List ℕ) (at : ℕ) (small : (j : ℕ) → get_or log (at + j) 
       let b = four_back (byte_word log (at + 6)) _ _ _ _ (word-plus log at 6) (small 6) (small 7) (small 8) (small 9) in
       cc
 
-  pub stands_at : record_at log at ≢ Refused → Fits (record_at log at) × StandsAt log at (record_at log at)
-  stands_at =
-      record_cases (λ r. r ≢ Refused → Fits r × StandsAt log at r) log at
-      (λ n. absurd (n refl))
-      (λ h _. (
+  pub stands_at : (r : Record) → record_at log at ≡ Some r → Fits r × StandsAt log at r
+  stands_at r =
+      record_cases (λ o. o ≡ Some r → Fits r × StandsAt log at r) log at
+      (λ e. absurd cc)
+      (λ h. here (Start _ _) (
         (omega (arith, half_plus log at 4, small 4, small 5), omega (arith, word-plus log at 6, small 6, small 7, small 8, small 9)),
         bytes-at 9 log at h.0 ∙ head_bytes log at 10 1 _ _ (omega arith) (omega arith) h.1 h.2 (lane-bytes _ _ sector-bytes),
       ))
-      (λ h _. (
+      (λ h. here (Step _) (
         omega (arith, half_plus log at 4, small 4, small 5),
         bytes-at 5 log at h.0 ∙ head_bytes log at 6 2 _ _ (omega arith) (omega arith) h.1 h.2 (lane-bytes [] [] refl),
       ))
-      (λ h _. (tt, bytes-at 3 log at h.0 ∙ head_bytes log at 4 3 [] [] (omega arith) (omega arith) h.1 h.2 refl))
+      (λ h. here Cut (tt, bytes-at 3 log at h.0 ∙ head_bytes log at 4 3 [] [] (omega arith) (omega arith) h.1 h.2 refl))
+    where
+      here : (q : Record) → Fits q × StandsAt log at q → Some q ≡ Some r → Fits r × StandsAt log at r
+      here q f e = let same : q ≡ r = cc in subst (λ (x : Record). Fits x × StandsAt log at x) same f

@@ -1,8 +1,9 @@
 -- Records and logs said a second time, by their bytes.
-use Rattle.std.specs.Prelude.{◌≡◌, ◌≢◌, ◌⊎◌, true, false, List, [], ◌∷◌, ◌++◌, ℕ, ◌+◌, ◌/◌, ◌%◌, ◌≤◌, ◌<◌, length, take, drop}
+use Rattle.std.specs.Prelude.{◌≡◌, ◌≢◌, ◌⊎◌, true, false, List, [], ◌∷◌, ◌++◌, ℕ, ◌+◌, ◌/◌, ◌%◌, ◌≤◌, ◌<◌, length, take, drop, Some}
+use Rattle.std.specs.Option.{option_map}
 use Rattle.words.specs.Bytes.{Small}
 use Rattle.runlog.specs.declared.record.Record.{Record}
-use Rattle.runlog.specs.declared.record.Record.TheVariants.{Start, Step, Cut, Refused}
+use Rattle.runlog.specs.declared.record.Record.TheVariants.{Start, Step, Cut}
 use Rattle.runlog.specs.Record.{kind_of, record_at, taken_at}
 use Rattle.runlog.specs.Log.{log_of}
 
@@ -18,14 +19,12 @@ abbrev pub bytes_of : Record → List ℕ
 bytes_of (Start lane sector) = 10 ∷ 0 ∷ 1 ∷ 0 ∷ (two_bytes lane.0 ++ four_bytes sector.0)
 bytes_of (Step lane) = 6 ∷ 0 ∷ 2 ∷ 0 ∷ two_bytes lane.0
 bytes_of Cut = 4 ∷ 0 ∷ 3 ∷ 0 ∷ []
-bytes_of Refused = []
 
--- a record whose fields fit in their bytes; a refusal is none
+-- a record whose fields fit in their bytes
 abbrev pub Fits : Record → Type 0
 Fits (Start lane sector) = (lane.0 < 65536) × (sector.0 < 4294967296)
 Fits (Step lane) = lane.0 < 65536
 Fits Cut = Unit {0}
-Fits Refused = ⊥
 
 -- the bytes of a record stand at an offset
 abbrev pub StandsAt : List ℕ → ℕ → Record → Type 0
@@ -33,12 +32,12 @@ StandsAt log at r = take (length (bytes_of r)) (drop at log) ≡ bytes_of r
 
 pub record RecordClaim : Type 0 where
   -- a record is found where its bytes stand, and nothing else is found than what stands there
-  pub found : (log : List ℕ) (at : ℕ) (r : Record) → Fits r → StandsAt log at r → record_at log at ≡ r
-  pub stands : (log : List ℕ) (at : ℕ) → Small log → record_at log at ≢ Refused → Fits (record_at log at) × StandsAt log at (record_at log at)
+  pub found : (log : List ℕ) (at : ℕ) (r : Record) → Fits r → StandsAt log at r → record_at log at ≡ Some r
+  pub stands : (log : List ℕ) (at : ℕ) (r : Record) → Small log → record_at log at ≡ Some r → Fits r × StandsAt log at r
   -- a record begins with its length and its kind
   pub head : (r : Record) → Fits r → take 4 (bytes_of r) ≡ two_bytes (length (bytes_of r)) ++ two_bytes (kind_of r)
-  -- it is taken, and the place after it is after its bytes; after a refusal, where it was
-  pub taken : (log : List ℕ) (at : ℕ) → taken_at log at ≡ record { found = record_at log at; after = at + length (bytes_of (record_at log at)) }
+  -- it is taken, and the place after it is after its bytes; where no record stands none is
+  pub taken : (log : List ℕ) (at : ℕ) → taken_at log at ≡ option_map (λ r. record { found = r; after = at + length (bytes_of r) }) (record_at log at)
 
 -- the bytes of records, one after another
 unfoldable pub all_bytes : List Record → List ℕ

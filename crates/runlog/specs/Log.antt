@@ -1,9 +1,9 @@
 -- A whole run log: its records, and where it ends or is refused.
-use Rattle.std.specs.Prelude.{Bool, true, false, cond, List, [], ◌∷◌, ℕ, zero, suc, ◌+◌, ◌-◌, leb, length}
+use Rattle.std.specs.Prelude.{Bool, true, false, cond, List, [], ◌∷◌, ℕ, zero, suc, ◌+◌, ◌-◌, leb, length, Option, Some, None}
 use Rattle.runlog.specs.declared.record.Record.{Record}
-use Rattle.runlog.specs.Record.{length_of, refuses, record_at}
+use Rattle.runlog.specs.Record.{length_of, record_at}
 
--- the records that run, and the offset after them: the log's end, or where a record is refused
+-- the records that run, and the offset after them: the log's end, or where no record stands
 pub record Log : Type 0 where
   pub records : List Record
   pub stopped : Bool
@@ -19,12 +19,16 @@ stopped_at at = record { records = []; stopped = true; at = at }
 abbrev pub after : Record → Log → Log
 after r log = record { records = r ∷ log.records; stopped = log.stopped; at = log.at }
 
+-- what an offset's record begins: the log after it by that function, or a stop where there is none
+abbrev pub begun : (ℕ → Log) → ℕ → Option Record → Log
+begun from at None = stopped_at at
+begun from at (Some r) = after r (from (at + length_of r))
+
 -- at most n records from an offset on
 unfoldable pub up_to : ℕ → List ℕ → ℕ → Log
 up_to zero log at = ended at
 up_to (suc n) log at =
-    cond (leb (length log) at) (ended at)
-    (cond (refuses (record_at log at)) (stopped_at at) (after (record_at log at) (up_to n log (at + length_of (record_at log at)))))
+    cond (leb (length log) at) (ended at) (begun (up_to n log) at (record_at log at))
 
 -- every record from an offset on: each has a byte or more, so there are at most as many as bytes
 abbrev pub log_from : List ℕ → ℕ → Log

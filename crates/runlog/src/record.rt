@@ -1,16 +1,15 @@
 // The records of a run log: which one stands at an offset, and where it ends.
-ghost use Rattle.std.specs.Prelude.{◌≡◌, ◌+◌, ◌≤◌, ◌<◌, length};
+ghost use Rattle.std.specs.Prelude.{◌≡◌, ◌+◌, ◌≤◌, length};
 ghost use Rattle.words.specs.Bytes.{byte_word};
-ghost use Rattle.runlog.specs.Record.{byte_half, refuses, record_at, taken_at};
+ghost use Rattle.runlog.specs.Record.{byte_half, length_of, record_at, taken_at};
 
 use format::numbers::{LaneNo, SectorNo};
-use words::wide;
 
 // The longest log that is replayed.
 pub const MAX_LOG: usize = 8192;
 
-// What a record says, or that none stands there.
-#[derive(Clone, Copy)]
+// What a record says.
+#[derive(Clone, Copy, Debug, PartialEq, Eq)]
 pub enum Record {
     // Kind 1: a write is started on a lane, to a sector.
     Start(LaneNo, SectorNo),
@@ -18,37 +17,34 @@ pub enum Record {
     Step(LaneNo),
     // Kind 3: a cut, and a new opening.
     Cut,
-    // 20: it is short, has another length than its kind, or an unknown kind.
-    Refused,
 }
 
 impl Record {
-    // Whether no record stands there.
-    pub fn is_refused(self) -> bool
-        ensures { result ≡ refuses self }
+    // Its length in bytes.
+    fn length(self) -> usize
+        ensures { result ≡ length_of self }
     {
         match self {
-            Record::Start(_, _) => false,
-            Record::Step(_) => false,
-            Record::Cut => false,
-            Record::Refused => true,
+            Record::Start(_, _) => 10,
+            Record::Step(_) => 6,
+            Record::Cut => 4,
         }
     }
 }
 
 // A record, and the offset after it.
-#[derive(Clone, Copy)]
+#[derive(Clone, Copy, Debug, PartialEq, Eq)]
 pub struct Taken {
     pub found: Record,
     pub after: usize,
 }
 
 // The 16-bit number at an offset.
-fn half_at(log: &[u8], at: usize) -> u32
+fn half_at(log: &[u8], at: usize) -> u16
     requires { at + 2 ≤ length log.now }
-    ensures { (result ≡ byte_half log.now at) × (result < 65536) }
+    ensures { result ≡ byte_half log.now at }
 {
-    wide(log[at]) + 256 * wide(log[at + 1])
+    u16::from_le_bytes([log[at], log[at + 1]])
 }
 
 // The 32-bit number at an offset.
@@ -56,71 +52,42 @@ fn word_from(log: &[u8], at: usize) -> u32
     requires { at + 4 ≤ length log.now }
     ensures { result ≡ byte_word log.now at }
 {
-    half_at(log, at) + 65536 * half_at(log, at + 2)
+    u32::from_le_bytes([log[at], log[at + 1], log[at + 2], log[at + 3]])
 }
 
-// The record at an offset.
-pub fn record_at(log: &[u8], at: usize) -> Record
+// The record at an offset; none stands there if it is short, has another length than its kind, or an unknown kind.
+#[tactic(auto, unfolding(crate::specs::Record::record_at))]
+pub fn record_at(log: &[u8], at: usize) -> Option<Record>
     ensures { result ≡ record_at log.now at }
 {
-    let end = log.len();
-    if end < at {
-        return Record::Refused;
-    }
-    let left = end - at;
+    let left = log.len().checked_sub(at)?;
     if left < 4 {
-        return Record::Refused;
+        return None;
     }
     let length = half_at(log, at);
     let kind = half_at(log, at + 2);
-    if left < length as usize {
-        return Record::Refused;
+    if left < usize::from(length) {
+        return None;
     }
-    if kind == 1 {
-        if length == 10 {
-            return Record::Start(
-                LaneNo(half_at(log, at + 4)),
-                SectorNo(word_from(log, at + 6)),
-            );
+    match (kind, length) {
+        (1, 10) => {
+            let lane = LaneNo(u32::from(half_at(log, at + 4)));
+            Some(Record::Start(lane, SectorNo(word_from(log, at + 6))))
         }
-        return Record::Refused;
+        (2, 6) => Some(Record::Step(LaneNo(u32::from(half_at(log, at + 4))))),
+        (3, 4) => Some(Record::Cut),
+        _ => None,
     }
-    if kind == 2 {
-        if length == 6 {
-            return Record::Step(LaneNo(half_at(log, at + 4)));
-        }
-        return Record::Refused;
-    }
-    if kind == 3 {
-        if length == 4 {
-            return Record::Cut;
-        }
-        return Record::Refused;
-    }
-    Record::Refused
 }
 
 // The record at an offset, and the offset after it.
-pub fn taken_at(log: &[u8], at: usize) -> Taken
+#[tactic(auto, using(crate::proofs::Laws::record_in))]
+pub fn taken_at(log: &[u8], at: usize) -> Option<Taken>
     ensures { result ≡ taken_at log.now at }
 {
-    let found = record_at(log, at);
-    match found {
-        Record::Start(lane, sector) => Taken {
-            found: Record::Start(lane, sector),
-            after: at + 10,
-        },
-        Record::Step(lane) => Taken {
-            found: Record::Step(lane),
-            after: at + 6,
-        },
-        Record::Cut => Taken {
-            found: Record::Cut,
-            after: at + 4,
-        },
-        Record::Refused => Taken {
-            found: Record::Refused,
-            after: at,
-        },
-    }
+    let found = record_at(log, at)?;
+    Some(Taken {
+        found,
+        after: at + found.length(),
+    })
 }
