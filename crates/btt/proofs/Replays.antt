@@ -7,6 +7,7 @@ use Prim.Native.Nat.{ℕ, zero, suc, ◌≤◌, ◌<◌}
 use native.Mathlib.Omega.{arith}
 use lib.ListN.{length, get_or}
 use borrow.Author.Tests.{ne_eqb}
+use Rattle.std.specs.Prelude.{is_some, unwrap_or}
 use Rattle.words.specs.Bytes.{Small}
 use Rattle.layout.specs.Told.{alone_near}
 use Rattle.machine.specs.calls.Opening.{open_of}
@@ -28,8 +29,8 @@ for_host g = host.replayed (replay_number g.first g.stopped) g.records g.at g.ar
 
 pub replay_call : (a work log answers : List ℕ) (r : Replayed) (arena left put : List ℕ)
     → gave r arena left put ≡ into (replay_of a work log) answers
-    → (n : ℕ) → n ≡ replay_number r.first r.stopped
-    → host.replayed n r.records r.at arena left put ≡ btt_replay_of a work log answers
+    → (n : ℕ) → n ≡ replay_number r.first (is_some r.stopped)
+    → host.replayed n r.records (unwrap_or r.stopped 0) arena left put ≡ btt_replay_of a work log answers
 unfolding btt_replay_of
 replay_call a work log answers r arena left put e n k = rw k (ap for_host e)
 

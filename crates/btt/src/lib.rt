@@ -220,11 +220,11 @@ pub extern "C" fn btt_replay(
 {
     let replayed = replay(arena, work, log, answers);
     *records = replayed.records as u64;
-    *stopped = replayed.at as u64;
+    *stopped = replayed.stopped.unwrap_or(0) as u64;
     if replayed.first != 0 {
         return replayed.first;
     }
-    if replayed.stopped {
+    if replayed.stopped.is_some() {
         return Answer::BadRecord.number();
     }
     0

@@ -7,6 +7,7 @@ use lib.Seq.{take_all, take-append_seam}
 use borrow.Author.Tests.{lt-ltb, le-ltb}
 use mathlib.Core.Bool.{false}
 use Rattle.std.specs.Counts.{IsPrefixLen}
+use Rattle.std.specs.Prelude.{is_some, unwrap_or}
 use Rattle.text.specs.Replay.{replay_text}
 use Rattle.text.proofs.Laws.{counted}
 use Rattle.replaying.specs.declared.Replayed.{Replayed}
@@ -37,7 +38,7 @@ module _ (a log arena work answers : List ℕ) (d : Replayed)
   pub few : d.records ≤ 2048
   few = rw records (replay_within a work_buffer log).0
 
-  pub early : d.at ≤ 8192
+  pub early : unwrap_or d.stopped 0 ≤ 8192
   early = rw (ap (λ (x : Given). x.at) o) (replay_within a work_buffer log).1
 
   -- the answers that were put are those of the records
@@ -52,11 +53,11 @@ module _ (a log arena work answers : List ℕ) (d : Replayed)
 
   pub transcribed : length a ≤ max_arena → (before after : List ℕ) (r : ℕ)
       → let n = d.first in
-      let text = replay_text n (take d.records answers) d.stopped d.at in
+      let text = replay_text n (take d.records answers) (is_some d.stopped) (unwrap_or d.stopped 0) in
       r ≡ length text → after ≡ text ++ drop (length text) before → Transcribed (transcript_of a log) r arena before after
   unfolding transcript_of
   transcribed u before after r p q =
       let n = d.first in
-      let t : replay_text n (take d.records answers) d.stopped d.at ≡ text_of given =
+      let t : replay_text n (take d.records answers) (is_some d.stopped) (unwrap_or d.stopped 0) ≡ text_of given =
       rw (numbers, ← ap (λ (x : Given). x.first) o, ← ap (λ (x : Given). x.stopped) o, ← ap (λ (x : Given). x.at) o) in
       rw (le-ltb _ _ u, ← t) (record { count = p; buffer = q; replayed = ap (λ (x : Given). x.arena) o })

@@ -25,7 +25,7 @@ pub fn transcript(arena: &mut [u8], log: &[u8], out: &mut [u8; 65536]) -> usize
         out,
         number,
         &answers[..done.records],
-        done.stopped,
-        done.at as u32,
+        done.stopped.is_some(),
+        done.stopped.unwrap_or(0) as u32,
     )
 }

@@ -21,7 +21,7 @@ use Rattle.machine.proofs.opening.Opening.{opening_claim}
 use Rattle.machine.proofs.opening.Opens.{opened_figures}
 use Rattle.machine.proofs.exhibit.Made.{made, exhibited}
 use Rattle.runlog.specs.declared.record.Record.{Record}
-use Rattle.runlog.specs.declared.record.Record.TheVariants.{Start, Step, Cut, Refused}
+use Rattle.runlog.specs.declared.record.Record.TheVariants.{Start, Step, Cut}
 use Rattle.runlog.specs.Log.{Log, log_of}
 use Rattle.runlog.specs.Claims.{bytes_of, Fits, all_bytes, AllFit}
 use Rattle.runlog.proofs.Logs.{log_claim}
@@ -75,7 +75,6 @@ bytes_small (Start l s) = each_small (bytes_of (Start l s)) (
 )
 bytes_small (Step l) = each_small (bytes_of (Step l)) (omega arith, (omega arith, (omega arith, (omega arith, (omega arith, (omega arith, tt))))))
 bytes_small Cut = each_small (bytes_of Cut) (omega arith, (omega arith, (omega arith, (omega arith, tt))))
-bytes_small Refused = each_small [] tt
 
 log_small : (rs : List Record) → Small (all_bytes rs)
 unfolding all_bytes

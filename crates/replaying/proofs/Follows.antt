@@ -43,7 +43,7 @@ use Rattle.machine.proofs.invariant.Held.{held_long}
 use Rattle.machine.proofs.invariant.Histories.{alike_event}
 use Rattle.machine.proofs.row.Events.{RepIn, accepted, event_reply, event_rep}
 use Rattle.runlog.specs.declared.record.Record.{Record}
-use Rattle.runlog.specs.declared.record.Record.TheVariants.{Start, Step, Cut, Refused}
+use Rattle.runlog.specs.declared.record.Record.TheVariants.{Start, Step, Cut}
 use Rattle.runlog.specs.Claims.{Fits, AllFit}
 use Rattle.replaying.specs.Replay.{Point, own_table, room_of, step_bytes, ran, answered, run_all, answers_all}
 use Rattle.replaying.specs.Ledger.{Ledger, noted, all_noted}
@@ -167,7 +167,6 @@ module _ (row₀ : Row) (w : List ℕ) where
     one c u (Start l t) p = start_one l t
     one c u (Step l) p = step_one u l
     one c u Cut p = cut_one c
-    one c u Refused p = absurd p
 
   -- ---- all records
 
@@ -176,7 +175,6 @@ module _ (row₀ : Row) (w : List ℕ) where
   event_small f c i (Start l t) p = tt
   event_small f c i (Step l) p = lent_small f.size i
   event_small f c i Cut p = c.small
-  event_small f c i Refused p = absurd p
 
   pub events_small : (f : Figures) → Cleared f w → (rs : List Record) (i : ℕ) → AllFit rs → SmallEvents (events_of f.size w i rs)
   unfolding events_of AllFit
@@ -188,7 +186,6 @@ module _ (row₀ : Row) (w : List ℕ) where
   cuts_more (Start l t) n rs ns p q = q
   cuts_more (Step l) n rs ns p q = q
   cuts_more Cut n rs ns p q = (p.0, q)
-  cuts_more Refused n rs ns p q = q
 
   module _ (f : Figures) (s : Sized f) (c : Cleared f w) where
     abbrev from : ℕ → List Record → List Event

@@ -9,4 +9,3 @@ pub mod Numbers
 pub mod Rest
 pub mod Spare
 pub mod Words
-pub mod Turns

@@ -48,10 +48,9 @@ use Rattle.machine.specs.calls.Opening.{
 }
 use Rattle.machine.specs.calls.Writing.{start_of, step_of}
 use Rattle.runlog.specs.declared.record.Record.{Record}
-use Rattle.runlog.specs.declared.record.Record.TheVariants.{Start, Step, Cut, Refused}
-use Rattle.replaying.specs.declared.run.Did.{Did}
+use Rattle.runlog.specs.declared.record.Record.TheVariants.{Start, Step, Cut}
 use Rattle.replaying.specs.Replay.{Point, answered}
-use Rattle.replaying.specs.Stand.{DidGives}
+use Rattle.replaying.specs.Ran.{RanGives}
 
 -- an order of rules with such numbers answers such a number
 answer_small : {R : Type 0} (number : R → ℕ) → ((r : R) → number r < 256) → (test : R → Bool) (rs : List R) → answer number test rs < 256
@@ -99,8 +98,6 @@ unfolding start_of step_of open_of
 answered_small i x (Start l s) = call_small _ _ _
 answered_small i x (Step l) = call_small _ _ _
 answered_small i x Cut = open_small _ _
-answered_small i x Refused = omega arith
 
-pub did_small : {i : ℕ} {a work : List ℕ} {k : Handle} {found : Record} {r : Did} {arena left : List ℕ} → DidGives i a work k found r arena left
-    → r.number < 256
-did_small {i} {a} {work} {k} {found} g = rw g.number (answered_small i (record { arena = a; work = work; handle = k }) found)
+pub ran_small : {i n : ℕ} {x y : Point} {found : Record} → RanGives i x found n y → n < 256
+ran_small {i} {n} {x} {y} {found} g = rw g.number (answered_small i x found)

@@ -1,10 +1,10 @@
 -- The words that a step lends, as a loop puts them: one after another from the front.
-use mathlib.Core.Path.{◌≡◌, ap, ◌∙◌}
+use mathlib.Core.Path.{◌≡◌, ap, ◌∙◌, subst}
 use mathlib.Core.List.{List}
-use Prim.Native.Nat.{ℕ, suc, ◌+◌, ◌-◌, ◌/◌, ◌≤◌, ◌<◌}
+use Prim.Native.Nat.{ℕ, suc, ◌+◌, ◌-◌, ◌/◌, ◌<◌, min}
 use native.Mathlib.Omega.{arith}
 use lib.ListN.{length, take, replicate, length-replicate}
-use lib.Seq.{take_all}
+use Rattle.std.proofs.lemmas.List.{take_min}
 use Rattle.words.specs.Word.{put_word, put_words}
 use Rattle.words.proofs.Runs.{length-put_words}
 use Rattle.layout.specs.Sizes.{max_size}
@@ -28,6 +28,6 @@ fill_end b i k n e = let z : n - k ≡ 0 = omega arith in rw z
 pub words_length : (b : List ℕ) (i : ℕ) → b ≡ words_for i (replicate max_size 0) → length b ≡ max_size
 words_length b i e = ap length e ∙ length-put_words (rising i (max_size / 4)) _ 0 ∙ length-replicate {A = ℕ} max_size 0
 
--- a sector that is no shorter is all of it
-pub words_all : (b : List ℕ) (i size : ℕ) → b ≡ words_for i (replicate max_size 0) → max_size ≤ size → take size b ≡ b
-words_all b i size e u = take_all size b (omega (arith, words_length b i e))
+-- their first bytes, up to a sector's length
+pub words_lent : (b : List ℕ) (i size : ℕ) → b ≡ words_for i (replicate max_size 0) → take (min size max_size) b ≡ take size b
+words_lent b i size e = subst (λ (n : ℕ). take (min size n) b ≡ take size b) (words_length b i e) (take_min size b)

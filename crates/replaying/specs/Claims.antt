@@ -5,11 +5,11 @@ use Rattle.words.specs.Bytes.{Small, byte_word}
 use Rattle.layout.specs.Told.{alone_near}
 use Rattle.machine.specs.calls.Opening.{Room, figures_in, open_of}
 use Rattle.machine.specs.calls.Reading.{Read, read_of}
-use Rattle.machine.specs.calls.History.{start, step, read, State, Reply, Event, called, opened, reply_events, run_events, opened_from}
+use Rattle.machine.specs.calls.History.{start, step, State, Reply, Event, called, opened, reply_events, run_events, opened_from}
 use Rattle.machine.specs.words.Valid.{RoomFor}
 use Rattle.machine.specs.claims.Rest.{RestKept}
 use Rattle.runlog.specs.declared.record.Record.{Record}
-use Rattle.runlog.specs.declared.record.Record.TheVariants.{Start, Step, Cut, Refused}
+use Rattle.runlog.specs.declared.record.Record.TheVariants.{Start, Step, Cut}
 use Rattle.runlog.specs.Log.{log_of}
 use Rattle.replaying.specs.Replay.{step_bytes, own_table, room_of, replay_of}
 use Rattle.replaying.specs.Ledger.{Written, as_opened, by, Ledger, no_lines, cut_noted, all_noted}
@@ -32,7 +32,6 @@ abbrev pub event_of : ℕ → List ℕ → ℕ → Record → Event
 event_of size work i (Start l s) = called (start l.0 s.0)
 event_of size work i (Step l) = called (step l.0 (step_bytes size i))
 event_of size work i Cut = opened (room_of work own_table)
-event_of size work i Refused = called (read 0 [])
 
 unfoldable pub events_of : ℕ → List ℕ → ℕ → List Record → List Event
 events_of size work i [] = []
@@ -45,7 +44,6 @@ CutsOpen (r ∷ rs) [] = Unit {0}
 CutsOpen (Cut ∷ rs) (n ∷ ns) = (n ≡ 0) × CutsOpen rs ns
 CutsOpen (Start l s ∷ rs) (n ∷ ns) = CutsOpen rs ns
 CutsOpen (Step l ∷ rs) (n ∷ ns) = CutsOpen rs ns
-CutsOpen (Refused ∷ rs) (n ∷ ns) = CutsOpen rs ns
 
 -- ---- its sectors
 

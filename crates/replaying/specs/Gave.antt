@@ -1,11 +1,10 @@
 -- What a replay gave, in the form of its definition.
-use Rattle.std.specs.Prelude.{Bool, cond, List, [], ◌∷◌, ◌++◌, ℕ, suc, length, take, drop, set}
+use Rattle.std.specs.Prelude.{Bool, cond, List, [], ◌∷◌, ◌++◌, ℕ, suc, length, take, drop, set, is_some, unwrap_or}
 use Rattle.machine.specs.declared.handle.Handle as bare
 use Rattle.machine.specs.declared.lane.Lane.{Lane}
 use Rattle.machine.specs.state.Handle.{with}
 use Rattle.runlog.specs.Log.{Log, log_from}
 use Rattle.replaying.specs.declared.Replayed.{Replayed}
-use Rattle.replaying.specs.declared.run.Stand.{Stand}
 use Rattle.replaying.specs.Replay.{Point, Replay, run_all, answers_all}
 
 -- lent bytes, a handle and a table, as a point
@@ -41,8 +40,8 @@ abbrev pub gave : Replayed → List ℕ → List ℕ → List ℕ → Given
 gave r arena work answers = record {
   first = r.first;
   records = r.records;
-  stopped = r.stopped;
-  at = r.at;
+  stopped = is_some r.stopped;
+  at = unwrap_or r.stopped 0;
   arena = arena;
   work = work;
   answers = answers;
@@ -72,18 +71,6 @@ rest_of log i x answers = record {
   answers = put_from i (answers_all i x log.records) answers;
 }
 
--- where a replay has ended: nothing is left
-abbrev pub ended : Stand → List ℕ → List ℕ → List ℕ → Given
-ended s arena work answers = record {
-  first = 0;
-  records = s.index;
-  stopped = s.stopped;
-  at = cond s.stopped s.at 0;
-  arena = arena;
-  work = work;
-  answers = answers;
-}
-
--- from where it stands: the records from there on, or nothing where the log was refused
-unfoldable pub left_at : List ℕ → Stand → Point → List ℕ → Given
-left_at log s x answers = cond s.stopped (ended s x.arena x.work answers) (rest_of (log_from log s.at) s.index x answers)
+-- what is left of a log from an offset on, with i records run before it
+abbrev pub rest : List ℕ → ℕ → ℕ → Point → List ℕ → Given
+rest log at i x answers = rest_of (log_from log at) i x answers

@@ -2,7 +2,7 @@
 use Rattle.std.specs.Prelude.{cond, List, [], ◌∷◌, ◌++◌, ℕ, zero, suc, ◌+◌, eqb, length}
 use Rattle.machine.specs.models.Row.{put}
 use Rattle.runlog.specs.declared.record.Record.{Record}
-use Rattle.runlog.specs.declared.record.Record.TheVariants.{Start, Step, Cut, Refused}
+use Rattle.runlog.specs.declared.record.Record.TheVariants.{Start, Step, Cut}
 
 -- a lane: without a write, or with one to a sector, and for each store made the index of the record whose step made it
 pub data Underway : Type 0 where
@@ -48,7 +48,6 @@ module _ (stores lanes : ℕ) where
   accepted k i (Start l s) = record { lane = put k.lane l.0 (to s.0 []); sector = k.sector }
   accepted k i (Step l) = step_noted k l.0 i (k.lane l.0)
   accepted k i Cut = cut_noted k
-  accepted k i Refused = k
 
   -- a refused record changes nothing
   abbrev pub noted : Ledger → ℕ → Record → ℕ → Ledger

@@ -2,5 +2,5 @@ pub mod Claims
 pub mod Exhibit
 pub mod Gave
 pub mod Ledger
+pub mod Ran
 pub mod Replay
-pub mod Stand

@@ -10,7 +10,7 @@ use Rattle.machine.specs.state.Handle.{Handle}
 use Rattle.machine.specs.calls.Opening.{Room, Opening, open_of}
 use Rattle.machine.specs.calls.Writing.{Outcome, start_of, step_of}
 use Rattle.runlog.specs.declared.record.Record.{Record}
-use Rattle.runlog.specs.declared.record.Record.TheVariants.{Start, Step, Cut, Refused}
+use Rattle.runlog.specs.declared.record.Record.TheVariants.{Start, Step, Cut}
 use Rattle.runlog.specs.Log.{Log, log_of}
 
 -- ---- the sector that a step lends
@@ -56,14 +56,12 @@ abbrev pub ran : ℕ → Point → Record → Point
 ran i x (Start l s) = outcome_point x.work (start_of x.arena x.handle l.0 s.0)
 ran i x (Step l) = outcome_point x.work (step_of x.arena x.handle l.0 (step_bytes x.handle.figures.size i))
 ran i x Cut = opened_point (open_of alone_near x.arena (room_of x.work x.handle.table))
-ran i x Refused = x
 
 -- what record i answers
 abbrev pub answered : ℕ → Point → Record → ℕ
 answered i x (Start l s) = (start_of x.arena x.handle l.0 s.0).number
 answered i x (Step l) = (step_of x.arena x.handle l.0 (step_bytes x.handle.figures.size i)).number
 answered i x Cut = (open_of alone_near x.arena (room_of x.work x.handle.table)).number
-answered i x Refused = 20
 
 -- ---- all records, from index i on; a refused one does not end the replay
 

@@ -22,10 +22,10 @@ slice_bounds-put_replay-end-2 c =
     let r = c.replay-done in
     sym (length-take-le _ _ (omega (arith, few _ _ _ _ _ r.result r.ensures)))
 
-pub overflow_cast-done : goal.overflow_cast-done
-overflow_cast-done c =
+pub overflow_cast-unwrap_or : goal.overflow_cast-unwrap_or
+overflow_cast-unwrap_or c =
     let r = c.replay-done in
-    omega (arith, early _ _ _ _ _ r.result r.ensures)
+    omega (arith, c.unwrap_or.ensures, early _ _ _ _ _ r.result r.ensures)
 
 pub put_replay-requires-2 : goal.put_replay-requires-2
 put_replay-requires-2 c =
@@ -36,6 +36,6 @@ pub returns : goal.returns
 returns c =
     let s = c.args in
     let t = transcribed _ _ _ _ _ c.replay-done.result c.replay-done.ensures c.if-arena-gt-LIMIT.false in
-    let p = c.put_replay-2.ensures in
+    let p = rw (c.is_some.ensures, c.unwrap_or.ensures) at c.put_replay-2.ensures in
     let w = with-count (t s.out.now c.put_replay-2.new.out _ p.0 p.1) in
     record { transcribed = w.0; prefix_len = w.1 }

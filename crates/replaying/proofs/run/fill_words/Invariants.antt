@@ -1,6 +1,6 @@
--- `fill_words` meets its contract. The loop's invariant: the words from k on are left. The measure is how many these are.
+-- `fill_words` meets its contract. The loop's invariant: the words from k on are left.
 use mathlib.Core.Path.{◌≡◌}
-use Prim.Native.Nat.{◌+◌, ◌-◌, ◌/◌, ◌≤◌}
+use Prim.Native.Nat.{◌+◌, ◌-◌, ◌/◌}
 use lib.ListN.{length}
 use Rattle.words.specs.Word.{put_words}
 use Rattle.layout.specs.Sizes.{max_size}
@@ -9,7 +9,4 @@ use Rattle.replaying.proofs.run.fill_words.Given as goal
 
 abbrev pub invariant-loop-k : goal.invariant-loop-k
 invariant-loop-k l =
-    (l.k ≤ max_size / 4) × (words_for l.index l.initial.buffer ≡ put_words l.buffer l.k (rising (l.index + l.k) (max_size / 4 - l.k))) × (length l.buffer ≡ max_size)
-
-abbrev pub decreases-loop-k : goal.decreases-loop-k
-decreases-loop-k l = max_size / 4 - l.k
+    (words_for l.index l.initial.buffer ≡ put_words l.buffer l.k (rising (l.index + l.k) (max_size / 4 - l.k))) × (length l.buffer ≡ max_size)
