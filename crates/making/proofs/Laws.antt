@@ -1,6 +1,6 @@
 -- Laws of making: a fresh lane word by word, the flog lane by lane, the tail part by part, and making's order.
 use mathlib.Core.Path.{◌≡◌, refl, sym, ap, ◌∙◌}
-use mathlib.Core.Bool.{true, false}
+use mathlib.Core.Bool.{true}
 use mathlib.Core.List.{List, ◌∷◌, ◌++◌, append-nil}
 use Prim.Native.Nat.{ℕ, zero, suc, ◌+◌, ◌-◌, ◌*◌, ◌/◌, ◌%◌, ◌≤◌, ◌<◌}
 use native.Mathlib.Omega.{arith}
@@ -30,7 +30,10 @@ use Rattle.machine.specs.calls.Making.{
 }
 use Rattle.format.proofs.Tests.{and_elim}
 use Rattle.layout.proofs.Allowed.{made-allowed, distance_ok, fit_of}
-use Rattle.machine.proofs.rules.Rules.{Walk, walked, passed_all}
+use Rattle.machine.specs.state.Answer.{refusal_number}
+use Rattle.machine.specs.declared.refusal.Refusal.{Refusal}
+use Rattle.machine.proofs.Refusals.{not_zero}
+use Rattle.machine.proofs.rules.Rules.{passed_all}
 use Rattle.machine.proofs.making.Making.{some-number_make}
 use Rattle.infoblock.proofs.InfoBlock.{length-of}
 use Rattle.layout.specs.Fit.{Fit}
@@ -108,11 +111,6 @@ put_tail_parts d f n a info r =
 
 -- ---- making's order
 
--- the answer at which a walk along the order ends
-pub make_walk : (o : Wanted) (n : ℕ) {k : ℕ} → Walk number_make (tests_make o n) order_make k → k ≡ make_number o n
-unfolding make_number
-make_walk o n w = walked w
-
 -- what making that is not refused gives
 pub record MakingPassed (o : Wanted) (n : ℕ) : Type 0 where
   pub sizes : sizes_allowed o.size o.sectors o.lanes ≡ true
@@ -145,14 +143,15 @@ made_fit o n p =
     fit_of alone_near.distance (distance_ok _ refl) _ n (rw p.made a) p.whole p.most
 
 -- what making gives, refused and not
-module _ (o : Wanted) (n : ℕ) (a : List ℕ) (e : n ≡ make_number o (length a)) where
-  pub make_refused : eqb n 0 ≡ false → ◌≡◌ {A = MakeOutcome} (record { number = n; arena = a }) (make_of o a)
+module _ (o : Wanted) (a : List ℕ) where
+  pub make_refused : (r : Refusal) → refusal_number r ≡ make_number o (length a)
+      → ◌≡◌ {A = MakeOutcome} (record { number = refusal_number r; arena = a }) (make_of o a)
   unfolding make_of
-  make_refused p = rw (← e, p)
+  make_refused r e = rw (← e, not_zero r)
 
-  pub make_done : eqb n 0 ≡ true → ◌≡◌ {A = MakeOutcome} (record { number = n; arena = fresh_arena o a }) (make_of o a)
+  pub make_done : 0 ≡ make_number o (length a) → ◌≡◌ {A = MakeOutcome} (record { number = 0; arena = fresh_arena o a }) (make_of o a)
   unfolding make_of
-  make_done p = rw (← e, p)
+  make_done e = rw (← e)
 
-  pub done_passed : eqb n 0 ≡ true → MakingPassed o (length a)
-  done_passed p = make_passed o (length a) (sym e ∙ eqb-true n 0 p)
+  pub done_passed : 0 ≡ make_number o (length a) → MakingPassed o (length a)
+  done_passed e = make_passed o (length a) (sym e)

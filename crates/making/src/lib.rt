@@ -13,7 +13,7 @@ ghost use Rattle.making.specs.Gave.{make_gave, wanted_of};
 
 use infoblock::put_info;
 use layout::{Figures, fresh_figures, fresh_length, length_allowed, sizes_allowed};
-use machine::answer::Answer;
+use machine::refusal::Refusal;
 use words::{put_word, zero_words};
 
 // Stores a fresh lane's 16 words from word i on.
@@ -33,10 +33,8 @@ fn put_flog(a: &mut [u8], i: usize, sectors: u32, n: u32)
     requires { (4 * (i + 16 * n) ≤ length a.old) × (sectors + n < 4294967296) }
     ensures { a.new ≡ put_words a.old i (fresh_flog sectors 0 n) }
 {
-    let mut l: u32 = 0;
-    while l < n {
+    for l in 0..n {
         put_lane(a, i + 16 * (l as usize), sectors, l);
-        l += 1;
     }
 }
 
@@ -58,6 +56,7 @@ fn put_tail(a: &mut [u8], f: Figures, first: &[u8], second: &[u8])
 }
 
 // Why making is refused: 3, 1, 10 in that order.
+#[tactic(auto, unfolding(machine::specs::calls::Making::make_number, machine::specs::Rules::answer))]
 fn judge_make(
     total: usize,
     size: u32,
@@ -65,25 +64,19 @@ fn judge_make(
     lanes: u32,
     first: &[u8],
     second: &[u8],
-) -> Answer
+) -> Result<(), Refusal>
     ensures { number_of result ≡ make_number (wanted_of size sectors lanes first.now second.now) total }
 {
     if !sizes_allowed(size, sectors, lanes) {
-        return Answer::ForbiddenFigure;
+        return Err(Refusal::ForbiddenFigure);
     }
-    if !length_allowed(total) {
-        return Answer::WrongLength;
+    if !length_allowed(total) || total as u64 != fresh_length(size, sectors, lanes) {
+        return Err(Refusal::WrongLength);
     }
-    if total as u64 != fresh_length(size, sectors, lanes) {
-        return Answer::WrongLength;
+    if first.len() != 16 || second.len() != 16 {
+        return Err(Refusal::WrongBuffer);
     }
-    if first.len() != 16 {
-        return Answer::WrongBuffer;
-    }
-    if second.len() != 16 {
-        return Answer::WrongBuffer;
-    }
-    Answer::Done
+    Ok(())
 }
 
 // Makes an arena of E sectors of S bytes with so many lanes in a slice of just the length that this works out.
@@ -94,16 +87,13 @@ pub fn make(
     lanes: u32,
     first: &[u8],
     second: &[u8],
-) -> Answer
+) -> Result<(), Refusal>
     ensures { make_gave result arena.new
         ≡ make_of (wanted_of size sectors lanes first.now second.now) arena.old }
 {
-    let answer = judge_make(arena.len(), size, sectors, lanes, first, second);
-    if !answer.is_done() {
-        return answer;
-    }
+    judge_make(arena.len(), size, sectors, lanes, first, second)?;
     let f = fresh_figures(size, sectors, lanes);
     put_info(arena, 0, first, second, f);
     put_tail(arena, f, first, second);
-    answer
+    Ok(())
 }
