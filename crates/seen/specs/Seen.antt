@@ -1,5 +1,5 @@
 -- What a call sees of the table that is lent with a handle, and what it gives back, in the form of the machine's definitions.
-use Rattle.std.specs.Prelude.{◌≡◌, Bool, cond, ◌&&◌, List, ℕ, eqb, leb, length, Result, Ok, Err}
+use Rattle.std.specs.Prelude.{◌≡◌, Bool, cond, ◌&&◌, List, ℕ, eqb, leb, length, set, Result, Ok, Err}
 use Rattle.format.specs.Tests.{every}
 use Rattle.layout.specs.Place.{layout_of}
 use Rattle.machine.specs.declared.handle.Handle as bare
@@ -46,6 +46,11 @@ pub record Saw (h : bare.Handle) (l s : ℕ) (seen : Seen) : Type 0 where
 -- so it is with every table of which that is seen
 abbrev pub Every : bare.Handle → ℕ → ℕ → Seen → (Handle → Type 0) → Type 0
 Every h l s seen P = (t : List Lane) → seen ≡ seen_of h t l s → P (with h t)
+
+-- a table with the record that a call gave in its lane's place; a refusal leaves it
+abbrev pub kept : List Lane → ℕ → Result Lane Refusal → List Lane
+kept t l (Ok own) = set t l own
+kept t l (Err _) = t
 
 -- what a call on lane l gave: its number, the arena, and the table with the lane's record stored; a refusal stores none
 abbrev pub moved : Handle → ℕ → Result Lane Refusal → List ℕ → Outcome

@@ -1,16 +1,18 @@
-// The table of lane records that a caller lends. Only the functions here and the calls that are given one touch it, and each is thin: it
-// reads records, calls a covered function by value, and stores one record.
+// The table of lane records that a caller lends. Only the functions here and the calls that are given one touch it: they read records, call
+// a function by value, and store one record.
 #![tactic(auto)]
 
 ghost use Rattle.std.specs.Prelude.{◌≡◌, ◌≤◌, length, set};
 ghost use Rattle.machine.specs.state.Handle.{lane_at};
 ghost use Rattle.lanes.specs.Filled.{LanesFit, filled_by};
-ghost use Rattle.seen.specs.Seen.{seen_of};
+ghost use Rattle.machine.specs.state.Answer.{number_of};
+ghost use Rattle.seen.specs.Seen.{kept, seen_of};
 
 use format::numbers::{LaneNo, SectorNo};
 use lanes::ArenaView;
 use machine::handle::Handle;
 use machine::lane::Lane;
+use machine::refusal::Refusal;
 use seen::{Seen, also_flies, judged, out_of_range, seen_of};
 
 // A record of the table; past its end, the record of all zeroes.
@@ -27,6 +29,15 @@ pub fn put_lane(table: &mut [Lane], i: usize, r: Lane)
     if i < table.len() {
         table[i] = r;
     }
+}
+
+// Stores the record that a call gave in its lane's place; a refusal stores nothing, and is handed on.
+pub fn keep(table: &mut [Lane], lane: LaneNo, given: Result<Lane, Refusal>) -> Result<(), Refusal>
+    ensures answer { number_of result ≡ number_of given }
+    ensures table_after { table.new ≡ kept table.old lane.0 given }
+{
+    put_lane(table, lane.0 as usize, given?);
+    Ok(())
 }
 
 // What a call sees of the table: it is judged record by record, up to the first that is out of range.
