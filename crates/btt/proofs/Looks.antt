@@ -50,13 +50,13 @@ module _ (a : List ℕ) (h : Handle) (l : ℕ) where
       record { judged = judged a h p.0 p.1.0 p.1.1.0; lane = leb-false _ _ p.1.1.1.0 }
 
   -- what an accepted look shows: the lane's own record, or where its next step stores
-  pub lane-shown : (n : ℕ) (own : Lane) (out after : List ℕ) → n ≡ lane_number a h l → eqb n 0 ≡ true → own ≡ lane_at h.table l
+  pub lane-shown : (own : Lane) (out after : List ℕ) → 0 ≡ lane_number a h l → own ≡ lane_at h.table l
       → after ≡ put_words out 0 (record_words own) → ◌≡◌ {A = HostLane} (record { number = 0; out = after }) (lane_shown a h l out)
   unfolding lane_shown
-  lane-shown n own out after e z eo ea = let zero : lane_number a h l ≡ 0 = sym e ∙ eqb-true n 0 z in rw (zero, ea, eo)
+  lane-shown own out after e eo ea = rw (← e, ea, eo)
 
-  pub next-shown : (n offset place : ℕ) (own : Lane) → n ≡ next_number a h l → eqb n 0 ≡ true → own ≡ lane_at h.table l
+  pub next-shown : (offset place : ℕ) (own : Lane) → 0 ≡ next_number a h l → own ≡ lane_at h.table l
       → place ≡ at (laid_out h) (store_at (laid_out h) (plan_of l own) [] own.made).place
       → ◌≡◌ {A = HostNext} (record { number = 0; offset = 4 * place }) (next_shown a h l offset)
   unfolding next_shown next_offset
-  next-shown n offset place own e z eo ep = let zero : next_number a h l ≡ 0 = sym e ∙ eqb-true n 0 z in rw (zero, ep, eo)
+  next-shown offset place own e eo ep = rw (← e, ep, eo)

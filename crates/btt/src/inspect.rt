@@ -9,8 +9,8 @@ use format::numbers::LaneNo;
 use handlebytes::put_record;
 use infoblock::Part;
 use judge::info::info_part;
-use machine::answer::Answer;
 use machine::handle::Handle;
+use machine::refusal::Refusal;
 use seen::{Seen, judge_table};
 use stores::store_place;
 
@@ -43,60 +43,58 @@ pub fn info_span(arena: &[u8]) -> Span
 }
 
 // Judges a look at a lane's record: the first rule of its order that applies.
-fn judge_lane(arena: &[u8], h: Handle, seen: Seen, lane: LaneNo) -> Answer
+fn judge_lane(arena: &[u8], h: Handle, seen: Seen, lane: LaneNo) -> Result<(), Refusal>
     ensures { Every h lane.0 0 seen (λ k. number_of result ≡ lane_number arena.now k lane.0) }
 {
-    let first = judge_table(arena.len(), h, seen);
-    if !first.is_done() {
-        return first;
+    judge_table(arena.len(), h, seen)?;
+    if h.figures.lanes <= lane.0 {
+        return Err(Refusal::NoSuchLane);
     }
-    let f = h.figures;
-    if f.lanes <= lane.0 {
-        return Answer::NoSuchLane;
-    }
-    first
+    Ok(())
 }
 
 // Judges a look at a lane's next store: the first rule of its order that applies.
-fn judge_next(arena: &[u8], h: Handle, seen: Seen, lane: LaneNo) -> Answer
+fn judge_next(arena: &[u8], h: Handle, seen: Seen, lane: LaneNo) -> Result<(), Refusal>
     ensures { Every h lane.0 0 seen (λ k. number_of result ≡ next_number arena.now k lane.0) }
 {
-    let answer = judge_lane(arena, h, seen, lane);
-    if !answer.is_done() {
-        return answer;
+    judge_lane(arena, h, seen, lane)?;
+    if !seen.own.is_busy() {
+        return Err(Refusal::LaneIdle);
     }
-    let own = seen.own;
-    if !own.is_busy() {
-        return Answer::LaneIdle;
-    }
-    answer
+    Ok(())
 }
 
 // Puts a lane's record into 28 bytes; a refusal leaves them.
-pub fn show_lane(arena: &[u8], h: Handle, seen: Seen, lane: LaneNo, out: &mut [u8; 28]) -> u32
+pub fn show_lane(
+    arena: &[u8],
+    h: Handle,
+    seen: Seen,
+    lane: LaneNo,
+    out: &mut [u8; 28],
+) -> Result<(), Refusal>
     ensures { Every h lane.0 0 seen
-        (λ k. gave.lane result out.new ≡ lane_shown arena.now k lane.0 out.old) }
+        (λ k. gave.lane (number_of result) out.new ≡ lane_shown arena.now k lane.0 out.old) }
 {
-    let answer = judge_lane(arena, h, seen, lane);
-    if !answer.is_done() {
-        return answer.number();
-    }
+    judge_lane(arena, h, seen, lane)?;
     put_record(out, seen.own);
-    0
+    Ok(())
 }
 
 // The byte offset that a lane's next step stores to; a refusal leaves it.
-pub fn show_next(arena: &[u8], h: Handle, seen: Seen, lane: LaneNo, offset: &mut u64) -> u32
+pub fn show_next(
+    arena: &[u8],
+    h: Handle,
+    seen: Seen,
+    lane: LaneNo,
+    offset: &mut u64,
+) -> Result<(), Refusal>
     requires { Saw h lane.0 0 seen }
     ensures { Every h lane.0 0 seen
-        (λ k. gave.next result offset.new ≡ next_shown arena.now k lane.0 offset.old) }
+        (λ k. gave.next (number_of result) offset.new ≡ next_shown arena.now k lane.0 offset.old) }
 {
-    let answer = judge_next(arena, h, seen, lane);
-    if !answer.is_done() {
-        return answer.number();
-    }
+    judge_next(arena, h, seen, lane)?;
     let r = seen.own;
     let place = store_place(h.figures, h.distance, lane, r, r.made);
     *offset = 4 * place as u64;
-    0
+    Ok(())
 }

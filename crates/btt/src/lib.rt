@@ -12,14 +12,14 @@ ghost use Rattle.btt.specs.Gave as gave;
 
 use arena::open::open;
 use arena::{make, read_seen, start_seen, step_seen, write_seen};
+use format::numbers::{LaneNo, SectorNo};
 use handlebytes::handle_in;
 use inspect::{info_span, show_lane, show_next};
-use machine::answer::Answer;
 use machine::lane::Lane;
-use opening::{cut_into, give, handle_of};
+use machine::refusal::{Refusal, number_of};
+use opening::{cut_into, fill_opened, give};
 use replaying::replay;
-use seen::{at_of, lane_no, no_lane, no_sector, number_of, own_of, sector_no};
-use table::{fill, look, put_lane};
+use table::{keep, look};
 
 pub mod claims;
 mod inspect;
@@ -38,8 +38,7 @@ pub extern "C" fn btt_make(
     ensures { gave.made result arena.new
         ≡ make_of (wanted_of size sectors lanes first.now second.now) arena.old }
 {
-    let answer = make(arena, size, sectors, lanes, first, second);
-    answer.number()
+    number_of(make(arena, size, sectors, lanes, first, second))
 }
 
 // The place of the info block that counts, in bytes: its offset and its length, 0 and 0 where none does.
@@ -67,7 +66,7 @@ pub extern "C" fn btt_open(
         ≡ btt_open_of layout arena.old (room work.old table.old) }
 {
     let opened = open(arena, work, layout, table.len());
-    fill(table, &arena[..], handle_of(opened));
+    fill_opened(table, &arena[..], opened);
     give(handle, mended, opened)
 }
 
@@ -101,8 +100,8 @@ pub extern "C" fn btt_read(
         ≡ btt_read_of arena.now handle.now table.now sector buffer.old }
 {
     let h = handle_in(handle);
-    let seen = look(table, h, no_lane(), no_sector());
-    read_seen(arena, h, seen, sector_no(sector), buffer)
+    let seen = look(table, h, LaneNo(0), SectorNo(0));
+    number_of(read_seen(arena, h, seen, SectorNo(sector), buffer))
 }
 
 // Starts a write to a sector on an idle lane; nothing is stored in the arena.
@@ -118,12 +117,10 @@ pub extern "C" fn btt_start(
         ≡ btt_start_of arena.now handle.now table.old lane sector }
 {
     let h = handle_in(handle);
-    let l = lane_no(lane);
-    let s = sector_no(sector);
-    let seen = look(&table[..], h, l, s);
-    let m = start_seen(arena, h, seen, l, s);
-    put_lane(table, at_of(m), own_of(m));
-    number_of(m)
+    let (lane, sector) = (LaneNo(lane), SectorNo(sector));
+    let seen = look(&table[..], h, lane, sector);
+    let begun = start_seen(arena, h, seen, lane, sector);
+    number_of(keep(table, lane, begun))
 }
 
 // Makes the next store of a lane's write.
@@ -139,12 +136,10 @@ pub extern "C" fn btt_step(
         ≡ btt_step_of arena.old handle.now table.old lane buffer.now }
 {
     let h = handle_in(handle);
-    let l = lane_no(lane);
-    let s = no_sector();
-    let seen = look(&table[..], h, l, s);
-    let m = step_seen(arena, h, seen, l, buffer);
-    put_lane(table, at_of(m), own_of(m));
-    number_of(m)
+    let lane = LaneNo(lane);
+    let seen = look(&table[..], h, lane, SectorNo(0));
+    let stepped = step_seen(arena, h, seen, lane, buffer);
+    number_of(keep(table, lane, stepped))
 }
 
 // Makes a whole write: a start and all its steps in one call, refused before any store.
@@ -161,12 +156,10 @@ pub extern "C" fn btt_write(
         ≡ btt_write_of arena.old handle.now table.old lane sector buffer.now }
 {
     let h = handle_in(handle);
-    let l = lane_no(lane);
-    let s = sector_no(sector);
-    let seen = look(&table[..], h, l, s);
-    let m = write_seen(arena, h, seen, l, s, buffer);
-    put_lane(table, at_of(m), own_of(m));
-    number_of(m)
+    let (lane, sector) = (LaneNo(lane), SectorNo(sector));
+    let seen = look(&table[..], h, lane, sector);
+    let written = write_seen(arena, h, seen, lane, sector, buffer);
+    number_of(keep(table, lane, written))
 }
 
 // A lane's record, for inspection.
@@ -182,9 +175,9 @@ pub extern "C" fn btt_lane_record(
         ≡ btt_lane_of arena.now handle.now table.now lane out.old }
 {
     let h = handle_in(handle);
-    let l = lane_no(lane);
-    let seen = look(table, h, l, no_sector());
-    show_lane(arena, h, seen, l, out)
+    let lane = LaneNo(lane);
+    let seen = look(table, h, lane, SectorNo(0));
+    number_of(show_lane(arena, h, seen, lane, out))
 }
 
 // The byte offset of the one word that a lane's next step stores, so that a host can flush it.
@@ -200,9 +193,9 @@ pub extern "C" fn btt_next_store(
         ≡ btt_next_store_of arena.now handle.now table.now lane offset.old }
 {
     let h = handle_in(handle);
-    let l = lane_no(lane);
-    let seen = look(table, h, l, no_sector());
-    show_next(arena, h, seen, l, offset)
+    let lane = LaneNo(lane);
+    let seen = look(table, h, lane, SectorNo(0));
+    number_of(show_next(arena, h, seen, lane, offset))
 }
 
 // Replays a run log on an arena: each record's answer in a byte, how many records ran, and where the log is refused, 0 if it is not.

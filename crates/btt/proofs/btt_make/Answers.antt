@@ -2,4 +2,4 @@
 use Rattle.btt.proofs.btt_make.Goals as goal
 
 pub returns : goal.returns
-returns c = rw c.number.ensures c.make-answer.ensures
+returns c = rw c.number_of.ensures c.make.ensures

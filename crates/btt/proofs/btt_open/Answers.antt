@@ -7,5 +7,5 @@ pub returns : goal.returns
 returns c =
     let o = c.open-opened in
     let g = c.give.ensures in
-    open_is c.args.layout c.args.arena.now c.args.work.now c.args.table.now o.result o.new.arena o.new.work c.handle_of.result c.fill.new.table _ _ _
-    (o.ensures.for_table c.args.table.now refl) c.handle_of.ensures c.fill.ensures g.value g.mended_after g.handle_after
+    open_is c.args.layout c.args.arena.now c.args.work.now c.args.table.now o.result o.new.arena o.new.work c.fill_opened.new.table _ _ _
+    (o.ensures.for_table c.args.table.now refl) c.fill_opened.ensures g.value g.mended_after g.handle_after

@@ -1,4 +1,5 @@
--- `btt_write` meets its contract: the whole write by what is seen is the machine's, and its record is stored.
+-- `btt_write` meets its contract: the whole write by what is seen is the machine's, and its record is kept.
+use mathlib.Core.Path.{◌∙◌}
 use Rattle.btt.proofs.Laws.{acted, write_is}
 use Rattle.btt.proofs.btt_write.Goals as goal
 
@@ -6,10 +7,7 @@ pub returns : goal.returns
 returns c =
     let h = c.handle_in-h in
     let t = c.args.table.now in
-    let m = c.write_seen-m in
-    let l = c.lane_no-l in
-    let s = c.sector_no-s in
-    write_is c.args.arena.now c.args.handle.now t c.args.lane c.args.sector c.args.buffer.now h.result l.result.0 s.result.0 _
-    h.ensures l.ensures s.ensures
-    (acted h.result t m.result m.new.arena c.number_of.result c.at_of.result c.own_of.result c.put_lane.new.table _
-    (m.ensures t c.look-seen.ensures) c.at_of.ensures c.own_of.ensures c.put_lane.ensures c.number_of.ensures)
+    let m = c.write_seen-written in
+    write_is c.args.arena.now c.args.handle.now t c.args.lane h.result h.ensures c.args.sector c.args.buffer.now _
+    (acted h.result t c.args.lane m.result m.new.arena _ c.keep.new.table _ (m.ensures t c.look-seen.ensures) c.keep.ensures.table_after
+    (c.number_of.ensures ∙ c.keep.ensures.answer))
