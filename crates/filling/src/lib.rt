@@ -12,10 +12,7 @@ fn read_once<R: Read>(stream: &mut R, room: &mut [u8]) -> usize
     ensures prefix_len { IsPrefixLen result room.new }
     ensures bytes { Consumes (R.remaining stream.old) (R.remaining stream.new) (take result room.new) }
 {
-    match stream.read(room) {
-        Ok(n) => n,
-        Err(_) => 0,
-    }
+    stream.read(room).unwrap_or(0)
 }
 
 // Reads until the room is full, the stream ends or a read fails: how many bytes stand at the start of the room. They are the stream's next ones.
