@@ -2,19 +2,10 @@
 // block's checksum, whose field counts as zero, and whether the block is sound.
 #![tactic(auto)]
 
-ghost use Rattle.std.specs.Prelude.{◌≡◌, length};
-
 use filling::fill;
 use fletcher::{block_checksum, fletcher64_of};
 use infoblock::is_sound;
 use std::io;
-
-// Room for one byte more than the longest run that is not refused.
-fn room() -> [u8; 65537]
-    ensures { 65537 ≡ length result }
-{
-    [0u8; 65537]
-}
 
 // Writes a checksum and a text.
 fn put(rt: &impl Print, sum: u64, text: &str) -> io::Result<()> {
@@ -28,17 +19,19 @@ fn put_run(rt: &impl Print, run: &[u8]) -> io::Result<()> {
     }
     put(rt, fletcher64_of(run, 0, run.len() / 4), "\n")?;
     if run.len() == 4096 {
-        if is_sound(run) {
-            put(rt, block_checksum(run), " sound\n")?;
+        let verdict = if is_sound(run) {
+            " sound\n"
         } else {
-            put(rt, block_checksum(run), " unsound\n")?;
-        }
+            " unsound\n"
+        };
+        put(rt, block_checksum(run), verdict)?;
     }
     Ok(())
 }
 
 fn main(rt: HostRuntime) -> io::Result<()> {
-    let mut input = room();
+    // Room for one byte more than the longest run that is not refused.
+    let mut input = [0u8; 65537];
     let n = fill(&mut rt.stdin(), &mut input);
     put_run(&rt, &input[..n])
 }
