@@ -1,3 +1,4 @@
+pub mod Lanes
 pub mod Parts
 pub mod Rules
 pub mod Words

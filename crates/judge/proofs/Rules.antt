@@ -1,5 +1,5 @@
--- Opening's order in the parts in which it is judged: rules 16 and 1 to 4, 5, 21, and 6, 7, 18 and 8; and what each part leaves of the number, the figures
--- and the work buffer.
+-- Opening's order in the parts in which it is judged: rules 16 and 1 to 4, 5, 21, and 6, 7, 18 and 8; and what each part leaves of the number and the
+-- work buffer.
 use mathlib.Core.Path.{◌≡◌, refl, sym, ◌∙◌}
 use mathlib.Core.Logic.{inl, inr}
 use mathlib.Core.Bool.{true, false, cond, not}
@@ -8,7 +8,7 @@ use Prim.Native.Nat.{ℕ, ◌≤◌, ◌<◌}
 use native.Mathlib.Omega.{arith}
 use lib.Dec.{eqb}
 use lib.ListN.{length}
-use borrow.Author.Tests.{eqb-true, eqb-false, lt-ltb, le-ltb, not-false}
+use borrow.Author.Tests.{eqb-false, lt-ltb, le-ltb, not-false}
 use Rattle.words.specs.Bytes.{Small}
 use Rattle.format.proofs.Tests.{by_bool, true_or}
 use Rattle.layout.specs.Fit.{Fit}
@@ -18,7 +18,9 @@ use Rattle.layout.specs.declared.Told.{Told}
 use Rattle.layout.proofs.Allowed.{fit_of}
 use Rattle.infoblock.proofs.InfoBlock.{length-of}
 use Rattle.machine.specs.Rules.{answer}
-use Rattle.machine.specs.state.Handle.{no_figures}
+use Rattle.machine.specs.declared.refusal.Refusal.{Refusal}
+use Rattle.machine.specs.state.Answer.{refusal_number}
+use Rattle.machine.proofs.Refusals.{not_zero}
 use Rattle.machine.specs.calls.Opening.{
   Extent,
   OpenRule,
@@ -46,7 +48,7 @@ use Rattle.machine.proofs.opening.Opens.{some-number_open, lanes_pass}
 use Rattle.machine.proofs.opening.Spare.{rule8}
 use Rattle.lanes.proofs.Lanes.{fit_arena}
 use Rattle.once.specs.Once.{cleared, blocks_once}
-use Rattle.judge.specs.Judge.{extent, judged_figures, work_left, words_number}
+use Rattle.judge.specs.Judge.{extent, work_left, words_number}
 
 -- an arena that passes these fits its figures
 pub described_fit : (t : Told) (a : List ℕ) → Described t a → Fit t.distance (figures_in a) (length a)
@@ -81,12 +83,12 @@ module _ (t : Told) (a : List ℕ) (f : Figures) (are : f ≡ figures_in a) wher
   lost_walk e room = walked (stop (rw (← are) e))
 
   module _ (lanes : lanes_lost g a ≡ false) where
-    pub words_walk : (n : ℕ) → n ≡ words_number g a → eqb n 0 ≡ false → Answered n
-    words_walk n e z room = by_bool (word_bad g a) _
+    pub words_walk : (r : Refusal) → refusal_number r ≡ words_number g a → Answered (refusal_number r)
+    words_walk r e room = by_bool (word_bad g a) _
         (λ p. rw (e, p) (walked (pass (rw (← are) lanes) (stop (rw (← are) p)))))
         (λ p. by_bool (word_sloppy g a) _
         (λ q. rw (e, p, q) (walked (pass (rw (← are) lanes) (pass (rw (← are) p) (stop (rw (← are) (true_or _ (lane_padded g a) (inl q))))))))
-        (λ q. absurd (eqb-false n 0 z (e ∙ rw (p, q)))))
+        (λ q. absurd (eqb-false _ 0 (not_zero r) (e ∙ rw (p, q)))))
 
     module _ (words : words_number g a ≡ 0) where
       pub padding_walk : lane_padded g a ≡ true → Answered 18
@@ -130,77 +132,62 @@ no_table : (t : Told) (a : List ℕ) (bytes records : ℕ) → answered t a (ext
 unfolding answer
 no_table t a bytes records = refl
 
--- what judging gives: a number, figures, and the work buffer as it is left
-pub record Ends (t : Told) (a work : List ℕ) (records n : ℕ) (f : Figures) (left : List ℕ) : Type 0 where
+-- what judging gives: a number, and the work buffer as it is left
+pub record Ends (t : Told) (a work : List ℕ) (records n : ℕ) (left : List ℕ) : Type 0 where
   pub number : n ≡ open_number t a (extent (length work) records)
-  pub figures : f ≡ judged_figures (open_number t a (extent (length work) records)) a
   pub buffer : left ≡ work_left t a work
 
-module _ (t : Told) (a work : List ℕ) (records n : ℕ) where
+module _ (t : Told) (a work : List ℕ) (records : ℕ) where
   abbrev room : Extent
   room = extent (length work) records
 
   -- a rule before the work buffer's use applies
-  alone-refuses : n ≡ answered t a room alone_rules → eqb n 0 ≡ false → Ends t a work records n no_figures work
+  alone-refuses : (n : ℕ) → n ≡ answered t a room alone_rules → eqb n 0 ≡ false → Ends t a work records n work
   unfolding work_after
-  alone-refuses e z =
+  alone-refuses n e z =
       let m : n ≡ open_number t a room = e ∙ sym (open_answer t a room ∙ rw (← e, z)) in
-      record { number = m; figures = rw (← m, z); buffer = rw (no_table t a (length work) records, ← e, z) }
+      record { number = m; buffer = rw (no_table t a (length work) records, ← e, z) }
 
-  pub info_refuses : n ≡ answered t a room info_rules → eqb n 0 ≡ false → Ends t a work records n no_figures work
-  info_refuses e z = alone-refuses (e ∙ sym (alone_answer t a room ∙ rw (← e, z))) z
+  pub info_refuses : (r : Refusal) → refusal_number r ≡ answered t a room info_rules → Ends t a work records (refusal_number r) work
+  info_refuses r e = alone-refuses (refusal_number r) (e ∙ sym (alone_answer t a room ∙ rw (← e, not_zero r))) (not_zero r)
 
 -- rules 16 and 1 to 4 let pass
-module _ (t : Told) (a work : List ℕ) (records n : ℕ) (f : Figures) (e : n ≡ answered t a (extent (length work) records) info_rules)
-    (z : eqb n 0 ≡ true) (fe : f ≡ judged_figures n a) where
+module _ (t : Told) (a work : List ℕ) (records : ℕ) (f : Figures) (passed : 0 ≡ answered t a (extent (length work) records) info_rules)
+    (are : f ≡ figures_in a) where
   abbrev rm : Extent
   rm = extent (length work) records
 
-  passed : answered t a rm info_rules ≡ 0
-  passed = sym e ∙ eqb-true n 0 z
-
-  pub figures_are : f ≡ figures_in a
-  figures_are = fe ∙ rw z
-
   pub figures_fit : Fit t.distance f (length a)
-  figures_fit = rw figures_are (described_fit t a (info_passed t a rm passed))
+  figures_fit = rw are (described_fit t a (info_passed t a rm (sym passed)))
 
-  pub room-refuses : length work < f.blocks → Ends t a work records 5 no_figures work
+  pub room-refuses : length work < f.blocks → Ends t a work records 5 work
   unfolding layout_of
   room-refuses h =
-      let s : length work < (layout_in t a).I = rw figures_are at h in
+      let s : length work < (layout_in t a).I = rw are at h in
       let w : 5 ≡ answered t a rm (short_work ∷ []) = walked (stop (lt-ltb _ _ s)) in
-      alone-refuses t a work records 5 (w ∙ sym (alone_answer t a rm ∙ rw passed)) refl
+      alone-refuses t a work records 5 (w ∙ sym (alone_answer t a rm ∙ rw (← passed))) refl
 
   module _ (enough : f.blocks ≤ length work) where
     alone_passes : answered t a rm alone_rules ≡ 0
     unfolding layout_of
     alone_passes =
-        let s : (layout_in t a).I ≤ length work = rw figures_are at enough in
-        alone_answer t a rm ∙ rw passed (sym (walked (pass (le-ltb _ _ s) through)))
+        let s : (layout_in t a).I ≤ length work = rw are at enough in
+        alone_answer t a rm ∙ rw (← passed) (sym (walked (pass (le-ltb _ _ s) through)))
 
     work_is : cleared f.blocks work ≡ work_left t a work
     unfolding work_after layout_of
-    work_is = rw (figures_are, no_table t a (length work) records, alone_passes)
+    work_is = rw (are, no_table t a (length work) records, alone_passes)
 
     -- 21, with the work buffer cleared
-    pub table-refuses : records < f.lanes → Ends t a work records 21 no_figures (cleared f.blocks work)
+    pub table-refuses : records < f.lanes → Ends t a work records 21 (cleared f.blocks work)
     unfolding layout_of
     table-refuses h =
-        let s : records < (layout_in t a).N = rw figures_are at h in
+        let s : records < (layout_in t a).N = rw are at h in
         let w : 21 ≡ answered t a rm (few_records ∷ map_rules) = walked (stop (lt-ltb _ _ s)) in
-        let m : 21 ≡ open_number t a rm = w ∙ sym (open_answer t a rm ∙ rw alone_passes) in
-        record { number = m; figures = rw (← m); buffer = work_is }
+        record { number = w ∙ sym (open_answer t a rm ∙ rw alone_passes); buffer = work_is }
 
-    module _ (long : f.lanes ≤ records) (m : ℕ) (p : m ≡ answered t a rm map_rules) where
-      number_is : m ≡ open_number t a rm
-      unfolding layout_of answer
-      number_is =
-          let s : (layout_in t a).N ≤ records = rw figures_are at long in
-          p ∙ sym (open_answer t a rm ∙ rw (alone_passes, le-ltb records (layout_in t a).N s))
-
-      pub map-refuses : eqb m 0 ≡ false → Ends t a work records m no_figures (cleared f.blocks work)
-      map-refuses y = record { number = number_is; figures = rw (← number_is, y); buffer = work_is }
-
-      pub map_passes : eqb m 0 ≡ true → Ends t a work records m f (cleared f.blocks work)
-      map_passes y = record { number = number_is; figures = figures_are ∙ rw (← number_is, y); buffer = work_is }
+    pub map_ends : f.lanes ≤ records → (m : ℕ) → m ≡ answered t a rm map_rules → Ends t a work records m (cleared f.blocks work)
+    unfolding layout_of answer
+    map_ends long m p =
+        let s : (layout_in t a).N ≤ records = rw are at long in
+        record { number = p ∙ sym (open_answer t a rm ∙ rw (alone_passes, le-ltb records (layout_in t a).N s)); buffer = work_is }

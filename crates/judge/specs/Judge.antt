@@ -1,20 +1,14 @@
--- Which info block counts in an arena, and the figures that judging gives.
-use Rattle.std.specs.Prelude.{cond, List, [], ℕ, ◌-◌, eqb, length, take, drop}
+-- Which info block counts in an arena, and what judging gives.
+use Rattle.std.specs.Prelude.{cond, List, [], ℕ, ◌-◌, length, take, drop}
 use Rattle.layout.specs.Figures.{length_allowed}
 use Rattle.layout.specs.Place.{Layout}
-use Rattle.layout.specs.declared.Figures.{Figures}
 use Rattle.layout.specs.declared.Told.{Told}
 use Rattle.infoblock.specs.Info.{counts_of}
-use Rattle.machine.specs.state.Handle.{no_figures}
-use Rattle.machine.specs.calls.Opening.{Extent, figures_in, word_bad, word_sloppy, work_after}
+use Rattle.machine.specs.calls.Opening.{Extent, word_bad, word_sloppy, work_after}
 
 -- which of an arena's two info blocks counts: the first (0), the copy (1), or neither (2), as where the length is not allowed
 unfoldable pub info_part_of : List ℕ → ℕ
 info_part_of a = cond (length_allowed (length a)) (counts_of (take 4096 a) (drop (length a - 4096) a)) 2
-
--- the figures that go with a number: those of the info block that counts where it is 0, else none
-abbrev pub judged_figures : ℕ → List ℕ → Figures
-judged_figures n a = cond (eqb n 0) (figures_in a) no_figures
 
 -- a work buffer of so many bytes, and a table of so many records
 abbrev pub extent : ℕ → ℕ → Extent

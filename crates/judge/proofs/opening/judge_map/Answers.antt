@@ -3,76 +3,61 @@
 use mathlib.Core.Path.{sym, ap, ◌∙◌}
 use mathlib.Core.Bool.{not}
 use native.Mathlib.Omega.{arith}
-use borrow.Author.Tests.{eqb-true}
-use Rattle.words.specs.Bytes.{Small}
+use Rattle.layout.specs.declared.Told.{Told}
+use Rattle.std.proofs.lemmas.Result.{err_from_is_err_and}
 use Rattle.lanes.proofs.Lanes.{map_fit}
 use Rattle.judge.proofs.Rules.{words_passed, passed_clean, lost_walk, words_walk, padding_walk, invalid_walk, valid_walk, once_or_not}
 use Rattle.judge.proofs.opening.judge_map.Goals as goal
 
-pub returns-then-lanes_lost : goal.returns-then-lanes_lost
-returns-then-lanes_lost c =
-    record {
-      result_value = lost_walk _ _ _ c.requires.1 (sym c.lanes_lost.ensures ∙ c.if-lanes_lost.true);
-      work_after = c.clear.ensures;
-    }
+pub returns-then-lanes_lost-clause-result_value : goal.returns-then-lanes_lost-clause-result_value
+returns-then-lanes_lost-clause-result_value c = λ told room d small.
+    lost_walk told _ _ c.requires.0 (rw d (sym c.lanes_lost.ensures ∙ c.if-lanes_lost.true)) room
 
-pub judge_words-words-requires : goal.judge_words-words-requires
-judge_words-words-requires c = map_fit _ _ _ c.requires.0
+pub judge_words-requires : goal.judge_words-requires
+judge_words-requires c = map_fit _ _ _ c.args.view.fit
 
-pub returns-then-not-is_done : goal.returns-then-not-is_done
-returns-then-not-is_done c =
+pub returns-in_err-judge_words-clause-result_value :
+    goal.returns-in_err-judge_words-clause-result_value
+returns-in_err-judge_words-clause-result_value c = λ told room d small.
     let e = sym c.lanes_lost.ensures ∙ c.if-lanes_lost.false in
-    let z = sym c.is_done.ensures ∙ c.if-not-is_done.true in
-    record {
-      result_value = words_walk _ _ _ c.requires.1 e _ (c.judge_words-words.ensures c.args.told.distance) z;
-      work_after = c.clear-then-not-is_done.ensures;
-    }
+    let p = err_from_is_err_and c.from_residual.result c.from_residual.ensures.1 in
+    rw (p.1, p.2) (words_walk told _ _ c.requires.0 (rw d e) _ (c.in_err-judge_words.ensures told.distance) room)
 
-pub returns-then-lane_padded : goal.returns-then-lane_padded
-returns-then-lane_padded c =
+pub returns-then-lane_padded-clause-result_value : goal.returns-then-lane_padded-clause-result_value
+returns-then-lane_padded-clause-result_value c = λ told room d small.
     let e = sym c.lanes_lost.ensures ∙ c.if-lanes_lost.false in
-    let z = sym c.is_done.ensures ∙ c.if-not-is_done.false in
-    let w = sym (c.judge_words-words.ensures c.args.told.distance) ∙ eqb-true _ _ z in
-    record {
-      result_value = padding_walk _ _ _ c.requires.1 e w (sym c.lane_padded.ensures ∙ c.if-lane_padded.true);
-      work_after = c.clear-then-lane_padded.ensures;
-    }
+    let w = sym (c.in_ok-judge_words.ensures told.distance) in
+    padding_walk told _ _ c.requires.0 (rw d e) w (rw d (sym c.lane_padded.ensures ∙ c.if-lane_padded.true)) room
 
 pub blocks_once-requires : goal.blocks_once-requires
 blocks_once-requires c =
-    let z = sym c.is_done.ensures ∙ c.if-not-is_done.false in
-    let w = sym (c.judge_words-words.ensures c.args.told.distance) ∙ eqb-true _ _ z in (
+    let v = c.args.view in
+    let w = sym (c.in_ok-judge_words.ensures v.distance) in
+    let t : Told = record { next = 0; distance = v.distance } in (
       record {
-        fit = c.requires.0;
+        fit = v.fit;
         lanes = sym c.lanes_lost.ensures ∙ c.if-lanes_lost.false;
-        words = (words_passed c.args.told _ _ c.requires.1 w).0;
-        clean = passed_clean c.args.told _ _ c.requires.1 w (sym c.lane_padded.ensures ∙ c.if-lane_padded.false);
+        words = (words_passed t _ _ c.requires.0 w).0;
+        clean = passed_clean t _ _ c.requires.0 w (sym c.lane_padded.ensures ∙ c.if-lane_padded.false);
       },
-      c.requires.2,
+      omega (arith, c.requires.1, c.clear.auto.w),
     )
 
-pub returns-then-not-blocks_once : goal.returns-then-not-blocks_once
-returns-then-not-blocks_once c =
+pub returns-then-not-blocks_once-clause-result_value :
+    goal.returns-then-not-blocks_once-clause-result_value
+returns-then-not-blocks_once-clause-result_value c = λ told room d small.
+    let v = c.args.view in
     let e = sym c.lanes_lost.ensures ∙ c.if-lanes_lost.false in
-    let z = sym c.is_done.ensures ∙ c.if-not-is_done.false in
-    let w = sym (c.judge_words-words.ensures c.args.told.distance) ∙ eqb-true _ _ z in
+    let w = sym (c.in_ok-judge_words.ensures told.distance) in
     let p = sym c.lane_padded.ensures ∙ c.if-lane_padded.false in
-    let small : Small c.args.a.now = λ j. omega (arith, c.shared_slice_known-1.given j) in
-    let o = once_or_not c.args.told.distance c.args.f _ c.requires.0 small e ∙ ap not (sym c.blocks_once.ensures.value) in
-    record {
-      result_value = invalid_walk _ _ _ c.requires.1 e w p (o ∙ ap not c.if-not-blocks_once.true);
-      work_after = c.blocks_once.ensures.w_after;
-    }
+    let o = once_or_not v.distance v.figures _ v.fit small e ∙ ap not (sym c.blocks_once.ensures.value) in
+    invalid_walk told _ _ c.requires.0 (rw d e) w (rw d p) (rw d (o ∙ ap not c.if-not-blocks_once.true)) room
 
-pub returns : goal.returns
-returns c =
+pub returns-clause-result_value : goal.returns-clause-result_value
+returns-clause-result_value c = λ told room d small.
+    let v = c.args.view in
     let e = sym c.lanes_lost.ensures ∙ c.if-lanes_lost.false in
-    let z = sym c.is_done.ensures ∙ c.if-not-is_done.false in
-    let w = sym (c.judge_words-words.ensures c.args.told.distance) ∙ eqb-true _ _ z in
+    let w = sym (c.in_ok-judge_words.ensures told.distance) in
     let p = sym c.lane_padded.ensures ∙ c.if-lane_padded.false in
-    let small : Small c.args.a.now = λ j. omega (arith, c.shared_slice_known-1.given j) in
-    let o = once_or_not c.args.told.distance c.args.f _ c.requires.0 small e ∙ ap not (sym c.blocks_once.ensures.value) in
-    record {
-      result_value = valid_walk _ _ _ c.requires.1 e w p (o ∙ ap not c.if-not-blocks_once.false);
-      work_after = c.blocks_once.ensures.w_after;
-    }
+    let o = once_or_not v.distance v.figures _ v.fit small e ∙ ap not (sym c.blocks_once.ensures.value) in
+    valid_walk told _ _ c.requires.0 (rw d e) w (rw d p) (rw d (o ∙ ap not c.if-not-blocks_once.false)) room

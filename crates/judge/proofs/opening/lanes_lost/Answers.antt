@@ -1,30 +1,21 @@
--- `judge::opening::lanes_lost` meets its contract. The invariant: every lane passed is readable.
-use mathlib.Core.Bool.{not}
-use mathlib.Core.Path.{sym, ap, ◌∙◌}
-use native.Mathlib.Nat.{le_antisymm}
+-- `judge::opening::lanes_lost` meets its contract: the search ends at the first lane that is not readable, or passes all.
+use mathlib.Core.Path.{◌≡◌, refl}
+use mathlib.Core.Bool.{true, false}
+use native.Mathlib.Omega.{arith}
 use borrow.Author.Rules.{rules}
-use Rattle.format.proofs.Tests.{every_zero, every_more, every_fails}
+use borrow.Author.Tests.{tests}
+use Rattle.std.proofs.lemmas.Iterator.{cases_from_any, YieldsList-from_range}
 use Rattle.layout.specs.Place.{layout_of}
+use Rattle.machine.specs.calls.Opening.{lane_readable}
+use Rattle.lanes.specs.View.{layout}
+use Rattle.judge.proofs.Lanes.{lost_told}
 use Rattle.judge.proofs.opening.lanes_lost.Goals as goal
-
-pub loop-l-init : goal.loop-l-init
-loop-l-init c = (search rules, every_zero _)
-
-pub lane_readable-requires : goal.lane_readable-requires
-lane_readable-requires c = (c.requires, c.loop-l-test.true)
-
-pub returns-then-not-lane_readable : goal.returns-then-not-lane_readable
-unfolding layout_of
-returns-then-not-lane_readable c =
-    let e = sym c.lane_readable.ensures ∙ c.if-not-lane_readable.true in
-    sym (ap not (every_fails _ _ _ c.loop-l-test.true e))
-
-pub loop-l-preserved : goal.loop-l-preserved
-loop-l-preserved c =
-    let e = sym c.lane_readable.ensures ∙ c.if-not-lane_readable.false in
-    (search rules, every_more _ _ c.loop-l.invariant.1 e)
 
 pub returns : goal.returns
 unfolding layout_of
 returns c =
-    sym (ap not (rw (le_antisymm c.loop-l.invariant.0 c.loop-l-test.false) at c.loop-l.invariant.1))
+    let v = c.args.view.now in
+    let t = lane_readable (layout v) v.bytes.now in
+    lost_told v.figures.lanes t c.any.result
+    (cases_from_any _ _ _ (λ l. t l ≡ false) (λ l. t l ≡ true) c.any.ensures.ran (YieldsList-from_range 0 v.figures.lanes v.figures.lanes refl (omega arith))
+    (λ x q k. search (rules, tests)) (λ x q k. search (rules, tests)))
