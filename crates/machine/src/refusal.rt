@@ -4,47 +4,47 @@ ghost use Rattle.machine.specs.state.Answer.{number_of, refusal_number, refusal_
 
 use format::map::WordFault;
 
-// Each refusal with its number for hosts, where 0 stands for none; 18 is of a sloppy arena, 20 of the run log and 21 of a short table.
+// Each refusal has its number for hosts, to whom 0 is no refusal; 18 is of a sloppy arena, 20 of the run log and 21 of a short table.
 #[derive(Clone, Copy, Debug, PartialEq, Eq)]
 pub enum Refusal {
-    // 1: the length is not allowed, or, in making, not the figure worked out.
-    WrongLength,
-    // 2: neither info block is sound.
-    NoInfoBlock,
-    // 3: a figure of the info block is forbidden.
-    ForbiddenFigure,
-    // 4: flags are not 0.
-    FlagsSet,
-    // 5: the work buffer is shorter than the number of blocks.
-    ShortWorkBuffer,
-    // 6: a lane has no newer half, or one out of range.
-    LostLane,
-    // 7: a map word names a block past the last.
-    BadMapWord,
-    // 8: mapped and free blocks are not every block once.
-    NotValid,
-    // 9: no such sector.
-    NoSuchSector,
-    // 10: the sector buffer is not a sector long, or an identifier not 16 bytes.
-    WrongBuffer,
-    // 11: no such lane.
-    NoSuchLane,
-    // 12: the lane has a write in flight.
-    LaneBusy,
-    // 13: another lane has that sector in flight.
-    SectorBusy,
-    // 14: the lane has no write in flight.
-    LaneIdle,
-    // 15: the sector read is bad.
-    BadSector,
-    // 16: the handle breaks a figure or does not match the slice, a lane's record is out of range, or a layout is neither 16 nor 32.
-    BadHandle,
-    // 18: a map word with flags 00 or the padding of a lane is not zero.
-    Sloppy,
-    // 20: a record of a run log is short, has another length than its kind or an unknown kind, or the log is too long.
-    BadRecord,
-    // 21: the table of lane records is shorter than the lanes.
-    ShortTable,
+    // The length is not allowed, or, in making, not the figure worked out.
+    WrongLength = 1,
+    // Neither info block is sound.
+    NoInfoBlock = 2,
+    // A figure of the info block is forbidden.
+    ForbiddenFigure = 3,
+    // Flags are not 0.
+    FlagsSet = 4,
+    // The work buffer is shorter than the number of blocks.
+    ShortWorkBuffer = 5,
+    // A lane has no newer half, or one out of range.
+    LostLane = 6,
+    // A map word names a block past the last.
+    BadMapWord = 7,
+    // Mapped and free blocks are not every block once.
+    NotValid = 8,
+    // No such sector.
+    NoSuchSector = 9,
+    // The sector buffer is not a sector long, or an identifier not 16 bytes.
+    WrongBuffer = 10,
+    // No such lane.
+    NoSuchLane = 11,
+    // The lane has a write in flight.
+    LaneBusy = 12,
+    // Another lane has that sector in flight.
+    SectorBusy = 13,
+    // The lane has no write in flight.
+    LaneIdle = 14,
+    // The sector read is bad.
+    BadSector = 15,
+    // The handle breaks a figure or does not match the slice, a lane's record is out of range, or a layout is neither 16 nor 32.
+    BadHandle = 16,
+    // A map word with flags 00 or the padding of a lane is not zero.
+    Sloppy = 18,
+    // A record of a run log is short, has another length than its kind or an unknown kind, or the log is too long.
+    BadRecord = 20,
+    // The table of lane records is shorter than the lanes.
+    ShortTable = 21,
 }
 
 impl Refusal {
@@ -52,27 +52,7 @@ impl Refusal {
     pub fn number(self) -> u32
         ensures { result ≡ refusal_number self }
     {
-        match self {
-            Refusal::WrongLength => 1,
-            Refusal::NoInfoBlock => 2,
-            Refusal::ForbiddenFigure => 3,
-            Refusal::FlagsSet => 4,
-            Refusal::ShortWorkBuffer => 5,
-            Refusal::LostLane => 6,
-            Refusal::BadMapWord => 7,
-            Refusal::NotValid => 8,
-            Refusal::NoSuchSector => 9,
-            Refusal::WrongBuffer => 10,
-            Refusal::NoSuchLane => 11,
-            Refusal::LaneBusy => 12,
-            Refusal::SectorBusy => 13,
-            Refusal::LaneIdle => 14,
-            Refusal::BadSector => 15,
-            Refusal::BadHandle => 16,
-            Refusal::Sloppy => 18,
-            Refusal::BadRecord => 20,
-            Refusal::ShortTable => 21,
-        }
+        self as u32
     }
 }
 
