@@ -2,11 +2,13 @@
 use mathlib.Core.Path.{◌≡◌, refl, sym, ap, ap₂, ◌∙◌}
 use mathlib.Core.List.{List, [], ◌∷◌, ◌++◌, append_assoc}
 use Prim.Native.Nat.{ℕ, zero, suc, ◌+◌, ◌-◌, ◌/◌, ◌%◌, ◌≤◌, ◌<◌}
-use native.Mathlib.Nat.{add-zero, zero-add, le_of_lt}
+use native.Mathlib.Nat.{add-zero, zero-add}
 use native.Mathlib.Numerals.{add-one}
 use native.Mathlib.Omega.{arith}
-use lib.ListN.{length, get_or, set, take, drop, length-append}
-use lib.Seq.{sets, sets-eq, length-sets, take_at, take-suc, take-length, length-take-le}
+use lib.ListN.{length, set, take, drop, length-append, take-append-drop}
+use lib.Seq.{sets, sets-eq, length-sets, take_at}
+use borrow.Rule.Slice.PartMut.{put_mid}
+use Rattle.std.proofs.lemmas.Slice.{take-put_mid, drop-put_mid}
 use borrow.Author.Tests.{lt-ltb, le-ltb}
 use Rattle.layout.specs.Place.{layout_of}
 use Rattle.machine.specs.state.Handle.{Handle, with, lane_at}
@@ -43,16 +45,16 @@ put_none l at = record { bytes = refl; place = omega arith }
 put_byte : (l : List ℕ) (at b : ℕ) → Put l (set l at b) at (at + 1) (b ∷ [])
 put_byte l at b = record { bytes = refl; place = refl }
 
--- one byte more of a text
-pub sets_more : (l text : List ℕ) (at i : ℕ) → i < length text
-    → set (sets l at (take i text)) (at + i) (get_or text i 0) ≡ sets l at (take (i + 1) text)
-sets_more l text at i h =
-    rw (add-one i, take-suc text i 0 h, sets_append (take i text) (get_or text i 0 ∷ []) l at, length-take-le i text (le_of_lt h))
-
-pub put_all : {l m text : List ℕ} {at i : ℕ} → m ≡ sets l at (take i text) → i ≤ length text → length text ≤ i → Put l m at (at + i) text
-put_all {l} {m} {text} {at} {i} e h k =
-    let n : i ≡ length text = omega arith in
-    record { bytes = e ∙ rw (n, take-length text); place = omega arith }
+-- a text copied into its part of the buffer, which holds ys then
+pub put_copied : (l ys text : List ℕ) (at : ℕ) → ys ≡ text → at + length text ≤ length l
+    → Put l (put_mid at (at + length text - at) l ys) at (at + length text) text
+put_copied l ys text at e h =
+    let n = at + length text in
+    let k : length text ≡ n - at = omega arith in
+    let front = take-put_mid at (n - at) l text n refl (omega arith) in
+    let rest = drop-put_mid at (n - at) l text n (omega arith) (omega arith) k in
+    let whole = take-append-drop n (put_mid at (n - at) l text) in
+    rw e (record { bytes = sym whole ∙ rw (front, rest) (sym (sets-eq text l at h)); place = refl })
 
 -- the digits of a number
 pub digits-none : (l : List ℕ) (at n most : ℕ) → most ≡ 0 → Put l l at at (digits most n)

@@ -1,4 +1,5 @@
 // The text of a report, put into a lent buffer piece by piece. Each piece gives the place after it.
+// The buffer stays lent with a place beside it: a String may find no memory, and a report never fails.
 #![tactic(auto)]
 
 ghost use Rattle.std.specs.Prelude.{◌≡◌, ◌++◌, ◌+◌, ◌≤◌, length, drop};
@@ -20,12 +21,9 @@ fn put_text(out: &mut [u8], at: usize, text: &[u8]) -> usize
     requires { at + length text.now ≤ length out.old }
     ensures { Put out.old out.new at result text.now }
 {
-    let mut i = 0;
-    while i < text.len() {
-        out[at + i] = text[i];
-        i += 1;
-    }
-    at + i
+    let end = at + text.len();
+    out[at..end].copy_from_slice(text);
+    end
 }
 
 // The last digits of a number, at most `most` of them.
@@ -37,11 +35,11 @@ fn put_digits(out: &mut [u8], at: usize, n: u32, most: usize) -> usize
         return at;
     }
     if n < 10 {
-        out[at] = 48 + (n % 10) as u8;
+        out[at] = b'0' + (n % 10) as u8;
         return at + 1;
     }
     let last = put_digits(out, at, n / 10, most - 1);
-    out[last] = 48 + (n % 10) as u8;
+    out[last] = b'0' + (n % 10) as u8;
     last + 1
 }
 
@@ -92,10 +90,8 @@ fn put_lanes(out: &mut [u8], at: usize, arena: &[u8], h: Handle) -> usize
     ensures { Put out.old out.new at result (lanes_text (opened h arena.now).table h.figures.lanes)
         × (result ≤ at + 2304) }
 {
-    let n = h.figures.lanes;
-    let mut l: u32 = 0;
     let mut next = at;
-    while l < n {
+    for l in 0..h.figures.lanes {
         let view = ArenaView {
             bytes: arena,
             figures: h.figures,
@@ -103,7 +99,6 @@ fn put_lanes(out: &mut [u8], at: usize, arena: &[u8], h: Handle) -> usize
         };
         let lane = view.found_lane(LaneNo(l));
         next = put_lane(out, next, l, lane);
-        l += 1;
     }
     next
 }

@@ -12,4 +12,5 @@ returns-then-number-eq0 c =
 pub returns : goal.returns
 returns c =
     let two = put_append c.put_digits-a.ensures.0 c.put_text-b.ensures in
-    (rw (← record_refused _ _ c.if-number-eq0.false) (put_append two c.put_line.ensures.0), search rules)
+    let line = rw c.from.ensures at c.put_line.ensures.0 in
+    (rw (← record_refused _ _ c.if-number-eq0.false) (put_append two line), search rules)
