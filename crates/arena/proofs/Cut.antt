@@ -13,24 +13,9 @@ use Rattle.layout.specs.Place.{Layout, layout_of}
 use Rattle.layout.specs.declared.Figures.{Figures}
 use Rattle.layout.specs.declared.Told.{Told}
 use Rattle.machine.specs.Rules.{answer}
-use Rattle.machine.specs.declared.lane.Lane.{Lane}
 use Rattle.machine.specs.state.Stores.{put_all}
 use Rattle.machine.specs.state.Flog.{pending}
-use Rattle.machine.specs.state.Handle.{no_handle}
-use Rattle.machine.specs.calls.Opening.{
-  Room,
-  extent_of,
-  figures_in,
-  layout_in,
-  mends,
-  pending_lanes,
-  open_number,
-  work_after,
-  Opening,
-  cut_open_of,
-  open_of,
-  handle_for,
-}
+use Rattle.machine.specs.calls.Opening.{Room, extent_of, figures_in, layout_in, mends, pending_lanes, open_number, work_after, cut_open_of, open_of, handle_for}
 use Rattle.machine.proofs.opening.Mends.{length-mends}
 use Rattle.judge.specs.Judge.{extent, work_left}
 use Rattle.arena.specs.Calls.{cut_gave}

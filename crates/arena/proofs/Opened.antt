@@ -21,7 +21,7 @@ use Rattle.machine.specs.declared.lane.Lane.{Lane}
 use Rattle.machine.specs.declared.refusal.Refusal.{Refusal}
 use Rattle.machine.specs.state.Answer.{refusal_number}
 use Rattle.machine.specs.state.Flog.{map_word}
-use Rattle.machine.specs.state.Handle.{Handle, bare_of, zero_handle}
+use Rattle.machine.specs.state.Handle.{Handle, bare_of}
 use Rattle.machine.specs.state.Lane.{no_lane}
 use Rattle.machine.specs.calls.Opening.{
   Room,
@@ -148,8 +148,7 @@ module _ (t : Told) (a work after left : List ℕ) (records n count : ℕ)
         work = ap (λ (o : Opening). o.work) q;
       }
 
-  module _ (z : eqb n 0 ≡ true) (small : Small a) (f : Figures)
-(fe : f ≡ figures_in a) where
+  module _ (z : eqb n 0 ≡ true) (small : Small a) (f : Figures) (fe : f ≡ figures_in a) where
     abbrev room : Extent
     room = extent (length work) records
 

@@ -7,4 +7,4 @@ pub mod open;
 pub use judge::info::info_block;
 pub use making::make;
 pub use reading::read_seen;
-pub use writing::{replay_step, start_seen, step_seen, write_seen};
+pub use writing::{start_seen, step_seen, write_seen};
