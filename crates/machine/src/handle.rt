@@ -2,7 +2,7 @@
 ghost use Rattle.std.specs.Prelude.{◌≡◌, ℕ};
 ghost use Rattle.machine.specs.state.Lane.{lane_allowed};
 ghost use Rattle.layout.specs.Place.{layout_of};
-ghost use Rattle.machine.specs.state.Handle.{no_figures, zero_handle, handle_allowed};
+ghost use Rattle.machine.specs.state.Handle.{handle_allowed};
 
 use super::lane::Lane;
 use layout::{Figures, distance_allowed, figures_allowed, length_allowed};
@@ -13,34 +13,6 @@ pub struct Handle {
     // The layout: bytes from a lane's first half to its second.
     pub distance: u32,
     pub figures: Figures,
-}
-
-// The figures of no arena.
-pub fn no_figures() -> Figures
-    ensures { result ≡ no_figures }
-{
-    Figures {
-        size: 0,
-        sectors: 0,
-        internal: 0,
-        blocks: 0,
-        lanes: 0,
-        dataoff: 0,
-        mapoff: 0,
-        flogoff: 0,
-        copyoff: 0,
-    }
-}
-
-// The handle of all zeroes, which a refused opening gives.
-pub fn no_handle() -> Handle
-    ensures { result ≡ zero_handle }
-{
-    Handle {
-        length: 0,
-        distance: 0,
-        figures: no_figures(),
-    }
 }
 
 // Whether a lane's record is in range, idle or not.
