@@ -1,7 +1,6 @@
 // The worked figures of document 01: those to be proved as one claim, and makings and checksums that are run.
 #![tactic(auto)]
 
-ghost use Rattle.std.specs.Prelude.{◌≡◌, length};
 ghost use Rattle.cases.specs.Table.{table};
 ghost use Rattle.cases.specs.Worked.{AllDue};
 
@@ -9,6 +8,7 @@ use arena::{info_block, make};
 use filling::fill;
 use fletcher::{block_checksum, fletcher64_of};
 use infoblock::is_sound;
+use machine::refusal::number_of;
 use std::rt::Files;
 use std::{fs, io};
 
@@ -16,11 +16,6 @@ use std::{fs, io};
 pub fn p_cases()
     ensures cases { AllDue table }
 {}
-
-// Writes a text and a number in decimal.
-fn show(rt: &impl Print, text: &str, n: u64) -> io::Result<()> {
-    print!(rt; "{text}{n}")
-}
 
 // Writes a text, a checksum and a newline.
 fn show_sum(rt: &impl Print, text: &str, sum: u64) -> io::Result<()> {
@@ -35,7 +30,7 @@ fn show_made(
     sectors: u32,
     lanes: u32,
 ) -> io::Result<()> {
-    let answer = make(
+    let made = make(
         room,
         size,
         sectors,
@@ -43,25 +38,13 @@ fn show_made(
         b"first identifier",
         b"other identifier",
     );
-    show(rt, "made ", size as u64)?;
-    show(rt, " ", sectors as u64)?;
-    show(rt, " ", lanes as u64)?;
-    show(rt, " length ", room.len() as u64)?;
-    show(rt, " answer ", answer.number() as u64)?;
-    println!(rt; "")?;
-    let block = info_block(&room[..]);
-    if block.len() == 4096 {
+    let length = room.len();
+    let answer = number_of(made);
+    println!(rt; "made {size} {sectors} {lanes} length {length} answer {answer}")?;
+    if let Some(block) = info_block(&room[..]) {
         show_sum(rt, "info block ", block_checksum(block))?;
     }
-    let words = room.len() / 4;
-    show_sum(rt, "whole arena ", fletcher64_of(&room[..], 0, words))
-}
-
-// Room for an info block.
-fn room_for_block() -> [u8; 4096]
-    ensures { 4096 ≡ length result }
-{
-    [0u8; 4096]
+    show_sum(rt, "whole arena ", fletcher64_of(&room[..], 0, length / 4))
 }
 
 // Reads an info block that another driver wrote, and writes its checksum and whether it is sound.
@@ -70,7 +53,7 @@ fn show_file(rt: &(impl Files + Print + Eprint), name: &str) -> io::Result<()> {
         Ok(file) => file,
         Err(error) => return eprintln!(rt; "{name}: {error}"),
     };
-    let mut block = room_for_block();
+    let mut block = [0u8; 4096];
     fill(&mut file, &mut block);
     print!(rt; "{name}")?;
     show_sum(rt, " ", block_checksum(&block))?;
@@ -81,40 +64,11 @@ fn show_file(rt: &(impl Files + Print + Eprint), name: &str) -> io::Result<()> {
     }
 }
 
-// Bytes for each of the four arenas.
-fn room_of_12() -> [u8; 49152]
-    ensures { 49152 ≡ length result }
-{
-    [165u8; 49152]
-}
-
-fn room_of_5() -> [u8; 20480]
-    ensures { 20480 ≡ length result }
-{
-    [165u8; 20480]
-}
-
-fn room_of_6() -> [u8; 24576]
-    ensures { 24576 ≡ length result }
-{
-    [165u8; 24576]
-}
-
-fn room_of_71() -> [u8; 290816]
-    ensures { 290816 ≡ length result }
-{
-    [165u8; 290816]
-}
-
 fn main(rt: HostRuntime) -> io::Result<()> {
-    let mut first = room_of_12();
-    show_made(&rt, &mut first, 512, 60, 4)?;
-    let mut second = room_of_5();
-    show_made(&rt, &mut second, 512, 1, 1)?;
-    let mut third = room_of_6();
-    show_made(&rt, &mut third, 4096, 1, 1)?;
-    let mut fourth = room_of_71();
-    show_made(&rt, &mut fourth, 512, 256, 256)?;
+    show_made(&rt, &mut [165u8; 49152], 512, 60, 4)?;
+    show_made(&rt, &mut [165u8; 20480], 512, 1, 1)?;
+    show_made(&rt, &mut [165u8; 24576], 4096, 1, 1)?;
+    show_made(&rt, &mut [165u8; 290816], 512, 256, 256)?;
     show_file(&rt, "linux-6.1-512.info")?;
     show_file(&rt, "linux-6.1-520.info")?;
     show_file(&rt, "pmdk-1.12-512.info")
