@@ -1,7 +1,6 @@
 // Replays the log steps.log on the arena arena.img in memory, and writes what each record answered.
 #![tactic(auto)]
 
-ghost use Rattle.std.specs.Prelude.{◌≡◌, length};
 ghost use Rattle.std.specs.Counts.{IsPrefixLen};
 
 mod claims;
@@ -11,27 +10,6 @@ use filling::fill;
 use std::io::Write;
 use std::rt::Files;
 use std::{fs, io};
-
-// Room for one byte more than the longest arena that is not refused.
-fn arena_room() -> [u8; 49153]
-    ensures { 49153 ≡ length result }
-{
-    [0u8; 49153]
-}
-
-// Room for one byte more than the longest log that is not refused.
-fn log_room() -> [u8; 8193]
-    ensures { 8193 ≡ length result }
-{
-    [0u8; 8193]
-}
-
-// Room for the text.
-fn page() -> [u8; 65536]
-    ensures { 65536 ≡ length result }
-{
-    [0u8; 65536]
-}
 
 // Reads the first bytes of a file, as many as there is room for; a missing file has none.
 fn read_file(files: &impl Files, name: &str, room: &mut [u8]) -> usize
@@ -44,11 +22,12 @@ fn read_file(files: &impl Files, name: &str, room: &mut [u8]) -> usize
 }
 
 fn main(rt: HostRuntime) -> io::Result<()> {
-    let mut arena = arena_room();
+    // Room for one byte more than the longest arena, and the longest log, that is not refused.
+    let mut arena = [0u8; 49153];
     let n = read_file(&rt, "arena.img", &mut arena);
-    let mut log = log_room();
+    let mut log = [0u8; 8193];
     let m = read_file(&rt, "steps.log", &mut log);
-    let mut out = page();
+    let mut out = [0u8; 65536];
     let k = transcript::transcript(&mut arena[..n], &log[..m], &mut out);
     rt.stdout().write_all(&out[..k])
 }
