@@ -17,8 +17,8 @@ returns-then-j-lt4 c = λ bytes. c.flog_place.ensures
     (store_flog c.args.d c.args.f (plan_of c.args.lane.0 c.args.r) bytes c.args.k
     c.if-k-words.false c.if-j-lt4.true)
 
-pub returns : goal.returns
-returns c = λ bytes. c.map_place.ensures c.args.d
+pub returns-else-j-lt4 : goal.returns-else-j-lt4
+returns-else-j-lt4 c = λ bytes. c.map_place.ensures c.args.d
     ∙ ap (λ (st : Store). at (layout_of c.args.d c.args.f) st.place)
     (store_map c.args.d c.args.f (plan_of c.args.lane.0 c.args.r) bytes c.args.k
     c.if-k-words.false c.if-j-lt4.false)
