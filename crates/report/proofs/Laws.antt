@@ -1,11 +1,14 @@
 -- The report from what opening gave and what the text's functions left, outcome by outcome.
-use mathlib.Core.Path.{◌≡◌, refl, sym, ap₂, ◌∙◌}
-use mathlib.Core.Logic.{◌≢◌}
+use mathlib.Core.Path.{◌≡◌, refl, sym, ap₂}
 use mathlib.Core.List.{List, ◌++◌}
 use Prim.Native.Nat.{ℕ, ◌≤◌, ◌<◌}
 use native.Mathlib.Omega.{arith}
 use lib.ListN.{length, drop}
-use borrow.Author.Tests.{lt-ltb, le-ltb, ne_eqb}
+use borrow.Author.Tests.{lt-ltb, le-ltb}
+use Rattle.std.specs.Prelude.{Ok, Err}
+use Rattle.machine.specs.declared.refusal.Refusal.{Refusal}
+use Rattle.machine.specs.state.Answer.{refusal_number}
+use Rattle.machine.proofs.Refusals.{not_zero}
 use Rattle.layout.specs.Told.{alone_near}
 use Rattle.machine.specs.declared.handle.Handle as bare
 use Rattle.machine.specs.declared.lane.Lane.{Lane}
@@ -25,24 +28,26 @@ pub too_long : (a before after : List ℕ) (r : ℕ) → max_input < length a �
 unfolding report_of
 too_long a before after r u e f = rw (lt-ltb _ _ u) (record { count = e; buffer = f; opened = refl })
 
--- an opening that gave this
-module _ (a input left : List ℕ) (o : Opened) (u : length a ≤ max_input)
-    (gives : OpenGives o input left lent.table (open_of alone_near a lent)) where
+module _ (a input left : List ℕ) (u : length a ≤ max_input) where
   abbrev given : Opening
   given = open_of alone_near a lent
 
-  reported : (text before after : List ℕ) (r : ℕ) → text ≡ text_of given → r ≡ length text → after ≡ text ++ drop (length text) before
-      → Reported (report_of a) r input before after
+  reported : (text before after : List ℕ) (r : ℕ) → input ≡ given.arena → text ≡ text_of given → r ≡ length text
+      → after ≡ text ++ drop (length text) before → Reported (report_of a) r input before after
   unfolding report_of
-  reported text before after r t e f = rw (le-ltb _ _ u, ← t) (record { count = e; buffer = f; opened = gives.arena })
+  reported text before after r i t e f = rw (le-ltb _ _ u, ← t) (record { count = e; buffer = f; opened = i })
 
-  pub refused_report : o.number ≢ 0 → (before after : List ℕ) (r : ℕ) → r ≡ length (refused_text o.number)
-      → after ≡ refused_text o.number ++ drop (length (refused_text o.number)) before → Reported (report_of a) r input before after
-  refused_report n before after r e f = reported (refused_text o.number) before after r (rw (← gives.number, ne_eqb o.number 0 n)) e f
+  -- an opening that was refused
+  pub refused_report : (x : Refusal) → OpenGives (Err x) input left lent.table given → (before after : List ℕ) (r : ℕ)
+      → r ≡ length (refused_text (refusal_number x)) → after ≡ refused_text (refusal_number x) ++ drop (length (refused_text (refusal_number x))) before
+      → Reported (report_of a) r input before after
+  refused_report x gives before after r =
+      reported (refused_text (refusal_number x)) before after r gives.arena (rw (← gives.number, not_zero x))
 
-  module _ (e : o.number ≡ 0) where
+  -- one that gave this
+  module _ (o : Opened) (gives : OpenGives (Ok o) input left lent.table given) where
     zero : given.number ≡ 0
-    zero = sym gives.number ∙ e
+    zero = sym gives.number
 
     -- the handle that was given, with the table that it fills
     handle : with o.handle (filled_by o.handle input lent.table) ≡ given.handle
@@ -51,7 +56,7 @@ module _ (a input left : List ℕ) (o : Opened) (u : length a ≤ max_input)
     pub opened_report : (before after : List ℕ) (r : ℕ) → let text = opened_text (opened o.handle input) o.mended in
         r ≡ length text → after ≡ text ++ drop (length text) before → Reported (report_of a) r input before after
     opened_report before after r =
-        reported (opened_text (opened o.handle input) o.mended) before after r
+        reported (opened_text (opened o.handle input) o.mended) before after r gives.arena
         (rw (zero, ← handle, ← gives.mended) (sym (opened_any o.handle input lent.table o.mended)))
 
     -- there is a line for each lane

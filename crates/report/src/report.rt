@@ -21,9 +21,8 @@ pub fn report(input: &mut [u8], out: &mut [u8; 4096]) -> usize
         return put_refused(out, 1);
     }
     let mut work = [0u8; 128];
-    let opened = open(input, &mut work, NEAR, RECORDS);
-    if opened.number != 0 {
-        return put_refused(out, opened.number);
+    match open(input, &mut work, NEAR, RECORDS) {
+        Ok(opened) => put_opened(out, &input[..], opened.handle, opened.mended),
+        Err(refusal) => put_refused(out, refusal.number()),
     }
-    put_opened(out, &input[..], opened.handle, opened.mended)
 }
