@@ -5,7 +5,6 @@ pub mod Flown
 pub mod Follows
 pub mod Lent
 pub mod Noted
-pub mod Numbers
 pub mod Rest
 pub mod Spare
 pub mod Words

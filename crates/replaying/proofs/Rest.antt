@@ -1,19 +1,20 @@
 -- What is left of a replay before the record at an offset: the records from there on, with those run before counted and their answers
 -- in place. Each turn of the loop leaves it as it was, and where no record stands nothing is left.
 use mathlib.Core.Path.{◌≡◌, refl, ap, ◌∙◌}
-use mathlib.Core.Logic.{◌≢◌}
 use mathlib.Core.List.{List, [], ◌∷◌}
 use Prim.Native.Nat.{ℕ, suc, ◌+◌, ◌≤◌, ◌<◌}
 use native.Mathlib.Omega.{arith}
 use lib.Dec.{ltb}
 use lib.ListN.{length, set}
-use borrow.Author.Tests.{eq-eqb, ne_eqb, ltb-true, ltb-false, lt-leb, le-leb}
-use Rattle.std.specs.Prelude.{Option, Some, None}
+use borrow.Author.Tests.{ltb-true, ltb-false, lt-leb, le-leb}
+use Rattle.std.specs.Prelude.{Option, Some, None, Ok, Err}
 use Rattle.std.specs.Bool.{then_some}
 use Rattle.std.specs.Option.{option_map}
 use Rattle.format.proofs.Tests.{by_bool}
 use Rattle.layout.specs.Told.{alone_near}
 use Rattle.machine.specs.declared.lane.Lane.{Lane}
+use Rattle.machine.specs.declared.refusal.Refusal.{Refusal}
+use Rattle.machine.proofs.Refusals.{not_zero}
 use Rattle.machine.specs.calls.Opening.{open_of}
 use Rattle.lanes.specs.Filled.{filled_by}
 use Rattle.arena.specs.declared.open.Opened.{Opened}
@@ -97,7 +98,7 @@ module _ (log : List ℕ) (at : ℕ) (e : None ≡ taken_at log at) where
 
   -- where none stands nothing is left: the replay stopped there, or the log ends there
   pub rest_none : (i : ℕ) (x : Point) (answers : List ℕ)
-      → gave (record { first = 0; records = i; stopped = then_some (ltb at (length log)) at }) x.arena x.work answers ≡ rest log at i x answers
+      → gave (Ok (record { records = i; stopped = then_some (ltb at (length log)) at })) x.arena x.work answers ≡ rest log at i x answers
   unfolding put_from count_from run_all answers_all
   rest_none i x answers =
       by_bool (ltb at (length log)) _ (λ q. rw (q, log_stop log at (ltb-true _ _ q) none_stands)) (λ q. rw (q, log_end log at (ltb-false _ _ q)))
@@ -109,21 +110,21 @@ pub put_nothing : (answers : List ℕ) → put_answers [] answers ≡ answers
 put_nothing [] = refl
 put_nothing (b ∷ bs) = refl
 
-module _ (a work log answers : List ℕ) (o : Opened) (arena left : List ℕ)
-    (gives : OpenGives o arena left own_table (open_of alone_near a (room_of work own_table))) where
+module _ (a work log answers arena left : List ℕ) where
   -- it is refused
-  pub refused : o.number ≢ 0 → gave (record { first = o.number; records = 0; stopped = None }) arena left answers ≡ into (replay_of a work log) answers
+  pub refused : (e : Refusal) → OpenGives (Err e) arena left own_table (open_of alone_near a (room_of work own_table))
+      → gave (Err e) arena left answers ≡ into (replay_of a work log) answers
   unfolding replay_of
-  refused p = rw (← gives.number, ne_eqb o.number 0 p, put_nothing answers, ← gives.arena, ← gives.work)
+  refused e gives = rw (← gives.number, not_zero e, put_nothing answers, ← gives.arena, ← gives.work)
 
-  module _ (p : o.number ≡ 0) where
+  module _ (o : Opened) (gives : OpenGives (Ok o) arena left own_table (open_of alone_near a (room_of work own_table))) where
     -- the log is too long
-    pub too_long : max_log < length log → gave (record { first = 0; records = 0; stopped = Some 0 }) arena left answers ≡ into (replay_of a work log) answers
+    pub too_long : max_log < length log → gave (Ok (record { records = 0; stopped = Some 0 })) arena left answers ≡ into (replay_of a work log) answers
     unfolding replay_of log_of run_all answers_all
-    too_long u = rw (← gives.number, eq-eqb o.number 0 p, lt-leb _ _ u, put_nothing answers, ← gives.arena, ← gives.work)
+    too_long u = rw (← gives.number, lt-leb _ _ u, put_nothing answers, ← gives.arena, ← gives.work)
 
     -- its records ran
     pub ran_all : length log ≤ max_log → (t : List Lane) → t ≡ filled_by o.handle arena own_table
         → into (replay_from (log_from log 0) (point_at arena left o.handle t)) answers ≡ into (replay_of a work log) answers
     unfolding replay_of log_of
-    ran_all u t e = rw (← gives.number, eq-eqb o.number 0 p, le-leb _ _ u, opened_is a work o arena left own_table t gives e)
+    ran_all u t e = rw (← gives.number, le-leb _ _ u, opened_is a work (Ok o) arena left own_table o.handle t gives refl e)

@@ -1,7 +1,9 @@
 -- What a replay gave, in the form of its definition.
-use Rattle.std.specs.Prelude.{Bool, cond, List, [], ◌∷◌, ◌++◌, ℕ, suc, length, take, drop, set, is_some, unwrap_or}
+use Rattle.std.specs.Prelude.{Bool, false, cond, List, [], ◌∷◌, ◌++◌, ℕ, suc, length, take, drop, set, is_some, unwrap_or, Result, Ok, Err}
 use Rattle.machine.specs.declared.handle.Handle as bare
 use Rattle.machine.specs.declared.lane.Lane.{Lane}
+use Rattle.machine.specs.declared.refusal.Refusal.{Refusal}
+use Rattle.machine.specs.state.Answer.{refusal_number}
 use Rattle.machine.specs.state.Handle.{with}
 use Rattle.runlog.specs.Log.{Log, log_from}
 use Rattle.replaying.specs.declared.Replayed.{Replayed}
@@ -36,12 +38,22 @@ into p answers = record {
   answers = put_answers p.numbers answers;
 }
 
-abbrev pub gave : Replayed → List ℕ → List ℕ → List ℕ → Given
-gave r arena work answers = record {
-  first = r.first;
+-- the result of a replay, with the lent bytes as it left them; where the first opening is refused no record runs
+abbrev pub gave : Result Replayed Refusal → List ℕ → List ℕ → List ℕ → Given
+gave (Ok r) arena work answers = record {
+  first = 0;
   records = r.records;
   stopped = is_some r.stopped;
   at = unwrap_or r.stopped 0;
+  arena = arena;
+  work = work;
+  answers = answers;
+}
+gave (Err e) arena work answers = record {
+  first = refusal_number e;
+  records = 0;
+  stopped = false;
+  at = 0;
   arena = arena;
   work = work;
   answers = answers;

@@ -3,12 +3,8 @@ use mathlib.Core.Path.{◌≡◌, sym, ◌∙◌}
 use native.Mathlib.Omega.{arith}
 use Rattle.std.specs.Prelude.{Some, None}
 use Rattle.runlog.specs.Record.{taken_at}
-use Rattle.replaying.proofs.Numbers.{ran_small}
 use Rattle.replaying.proofs.Rest.{taken_in, rest_more, rest_none, rest_first}
 use Rattle.replaying.proofs.run_records.Goals as goal
-
-pub put_answer-requires : goal.put_answer-requires
-put_answer-requires c = ran_small c.run_record-ran.ensures
 
 pub loop-taken-smaller : goal.loop-taken-smaller
 loop-taken-smaller c =
@@ -22,7 +18,7 @@ loop-taken-preserved c =
     let p = c.past-reader.ensures in
     let e : Some c.in-Some.taken ≡ taken_at c.args.log.now l.reader.at = rw (← l.invariant.1) (sym c.in-Some.is ∙ c.next.ensures) in
     let t = taken_in _ _ c.in-Some.taken e in (
-      rw p.1 (rest_more _ _ c.in-Some.taken e l.records _ _ _ _ _ c.run_record-ran.ensures c.put_answer.ensures) ∙ l.invariant.0,
+      rw p.1 (rest_more _ _ c.in-Some.taken e l.records _ _ _ _ _ c.run_record-answer.ensures c.put_answer.ensures) ∙ l.invariant.0,
       rw p.0 l.invariant.1,
       omega arith,
       omega arith,
