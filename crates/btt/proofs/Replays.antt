@@ -7,10 +7,13 @@ use Prim.Native.Nat.{ℕ, zero, suc, ◌≤◌, ◌<◌}
 use native.Mathlib.Omega.{arith}
 use lib.ListN.{length, get_or}
 use borrow.Author.Tests.{ne_eqb}
-use Rattle.std.specs.Prelude.{is_some, unwrap_or}
+use Rattle.std.specs.Prelude.{is_some, unwrap_or, Ok, Err}
 use Rattle.words.specs.Bytes.{Small}
 use Rattle.layout.specs.Told.{alone_near}
 use Rattle.machine.specs.calls.Opening.{open_of}
+use Rattle.machine.specs.declared.refusal.Refusal.{Refusal}
+use Rattle.machine.specs.state.Answer.{refusal_number}
+use Rattle.machine.proofs.Refusals.{not_zero}
 use Rattle.runlog.specs.Log.{Log}
 use Rattle.runlog.proofs.Logs.{log_claim}
 use Rattle.replaying.specs.declared.Replayed.{Replayed}
@@ -27,12 +30,19 @@ use Rattle.btt.specs.HostReplay as claim
 abbrev for_host : Given → HostReplay
 for_host g = host.replayed (replay_number g.first g.stopped) g.records g.at g.arena g.work g.answers
 
-pub replay_call : (a work log answers : List ℕ) (r : Replayed) (arena left put : List ℕ)
-    → gave r arena left put ≡ into (replay_of a work log) answers
-    → (n : ℕ) → n ≡ replay_number r.first (is_some r.stopped)
-    → host.replayed n r.records (unwrap_or r.stopped 0) arena left put ≡ btt_replay_of a work log answers
-unfolding btt_replay_of
-replay_call a work log answers r arena left put e n k = rw k (ap for_host e)
+module _ (a work log answers arena left put : List ℕ) where
+  pub replay_done : (r : Replayed) → gave (Ok r) arena left put ≡ into (replay_of a work log) answers
+      → (n : ℕ) → n ≡ replay_number 0 (is_some r.stopped)
+      → host.replayed n r.records (unwrap_or r.stopped 0) arena left put ≡ btt_replay_of a work log answers
+  unfolding btt_replay_of
+  replay_done r e n k = rw k (ap for_host e)
+
+  pub replay_refused : (r : Refusal) → gave (Err r) arena left put ≡ into (replay_of a work log) answers
+      → (n : ℕ) → n ≡ refusal_number r → host.replayed n 0 0 arena left put ≡ btt_replay_of a work log answers
+  unfolding btt_replay_of
+  replay_refused r e n k =
+      let z : replay_number (refusal_number r) false ≡ refusal_number r = rw (not_zero r) in
+      rw (k, ← z) (ap for_host e)
 
 -- ---- the answers in the lent buffer
 

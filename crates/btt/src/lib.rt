@@ -211,14 +211,20 @@ pub extern "C" fn btt_replay(
     ensures { gave.replayed result records.new stopped.new arena.new work.new answers.new
         ≡ btt_replay_of arena.old work.old log.now answers.old }
 {
-    let replayed = replay(arena, work, log, answers);
-    *records = replayed.records as u64;
-    *stopped = replayed.stopped.unwrap_or(0) as u64;
-    if replayed.first != 0 {
-        return replayed.first;
+    match replay(arena, work, log, answers) {
+        Ok(replayed) => {
+            *records = replayed.records as u64;
+            *stopped = replayed.stopped.unwrap_or(0) as u64;
+            if replayed.stopped.is_some() {
+                Refusal::BadRecord.number()
+            } else {
+                0
+            }
+        }
+        Err(refusal) => {
+            *records = 0;
+            *stopped = 0;
+            refusal.number()
+        }
     }
-    if replayed.stopped.is_some() {
-        return Answer::BadRecord.number();
-    }
-    0
 }

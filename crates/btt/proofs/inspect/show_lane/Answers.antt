@@ -1,5 +1,4 @@
 -- `btt::inspect::show_lane` meets its contract: a refused look leaves the bytes, and an accepted one puts the lane's own record there.
-use mathlib.Core.Path.{sym}
 use Rattle.std.proofs.lemmas.Result.{err_from_is_err_and}
 use Rattle.machine.proofs.Refusals.{not_zero}
 use Rattle.seen.proofs.Laws.{seen_own}
