@@ -12,7 +12,7 @@ use judge::info::info_part;
 use machine::handle::Handle;
 use machine::refusal::Refusal;
 use seen::{Seen, judge_table};
-use stores::store_place;
+use stores::WriteInFlight;
 
 // A part of an arena, in bytes.
 #[derive(Clone, Copy)]
@@ -93,8 +93,13 @@ pub fn show_next(
         (λ k. gave.next (number_of result) offset.new ≡ next_shown arena.now k lane.0 offset.old) }
 {
     judge_next(arena, h, seen, lane)?;
-    let r = seen.own;
-    let place = store_place(h.figures, h.distance, lane, r, r.made);
+    let own = seen.own;
+    let write = WriteInFlight {
+        handle: h,
+        lane,
+        own,
+    };
+    let place = write.place(own.made);
     *offset = 4 * place as u64;
     Ok(())
 }

@@ -22,7 +22,7 @@ use machine::handle::Handle;
 use machine::lane::Lane;
 use machine::refusal::Refusal;
 use seen::{Seen, judge_table};
-use stores::{put_store, put_stores};
+use stores::WriteInFlight;
 
 // Judges a write whose buffer fits, or not: the first rule of its order that applies.
 fn judge_write(
@@ -132,9 +132,14 @@ pub fn step_seen(
         (λ k. moved k lane.0 result arena.new ≡ step_of arena.old k lane.0 buffer.now) }
 {
     judge_step(&arena[..], h, seen, lane, buffer)?;
-    let r = seen.own;
-    put_store(arena, h.figures, h.distance, lane, r, buffer, r.made);
-    Ok(after_store(h.figures, r))
+    let own = seen.own;
+    let write = WriteInFlight {
+        handle: h,
+        lane,
+        own,
+    };
+    write.put(arena, buffer, own.made);
+    Ok(after_store(h.figures, own))
 }
 
 // Makes a whole write: start and all steps in one call, refused before any store; the lane's record after it.
@@ -152,7 +157,12 @@ pub fn write_seen(
 {
     let fits = buffer.len() == h.figures.size as usize;
     judge_write(&arena[..], h, seen, lane, sector, fits)?;
-    let r = begun(&arena[..], h, seen.own, sector);
-    put_stores(arena, h.figures, h.distance, lane, r, buffer);
-    Ok(r.finished())
+    let own = begun(&arena[..], h, seen.own, sector);
+    let write = WriteInFlight {
+        handle: h,
+        lane,
+        own,
+    };
+    write.put_all(arena, buffer);
+    Ok(own.finished())
 }

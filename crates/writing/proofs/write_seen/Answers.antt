@@ -13,29 +13,33 @@ returns-in_err-judge_write c =
     let p = err_from_is_err_and c.from_residual.result c.from_residual.ensures.1 in
     rw (p.1, p.2) (λ t e. write_refused _ _ t _ _ _ e _ _ (c.in_err-judge_write.ensures t e _ refl))
 
-pub begun-r-requires : goal.begun-r-requires
-begun-r-requires c =
+pub begun-own-requires : goal.begun-own-requires
+begun-own-requires c =
     let saw = c.requires in
     let given = c.in_ok-judge_write.ensures saw.table saw.is c.args.buffer.now refl in
     let p = write_found_start _ _ _ _ _ _ saw.is _ given in
     (handle_fit (with c.args.h saw.table) _ p.judged.handle, p.sector)
 
-pub put_stores-requires : goal.put_stores-requires
-put_stores-requires c =
+pub invariant_of-write : goal.invariant_of-write
+invariant_of-write c =
+    let saw = c.requires in
+    let fit = begun_fit _ _ _ _ _ _ saw.is _ (c.in_ok-judge_write.ensures saw.table saw.is c.args.buffer.now refl) in
+    record { fit = rw c.begun-own.ensures fit }
+
+pub put_all-requires : goal.put_all-requires
+put_all-requires c =
     let saw = c.requires in
     let given = c.in_ok-judge_write.ensures saw.table saw.is c.args.buffer.now refl in
     let p = write_found_start _ _ _ _ _ _ saw.is _ given in
-    let fit = begun_fit _ _ _ _ _ _ saw.is _ given in
-    let size = write_found_size _ _ _ _ _ _ saw.is _ given in
-    (handle_fit (with c.args.h saw.table) _ p.judged.handle, rw c.begun-r.ensures fit, size)
+    record { fit = handle_fit (with c.args.h saw.table) _ p.judged.handle; size = write_found_size _ _ _ _ _ _ saw.is _ given }
 
 pub finished-requires : goal.finished-requires
 finished-requires c =
     let saw = c.requires in
     let fit = begun_fit _ _ _ _ _ _ saw.is _ (c.in_ok-judge_write.ensures saw.table saw.is c.args.buffer.now refl) in
-    rw c.begun-r.ensures (omega (arith, fit.half))
+    rw c.begun-own.ensures (omega (arith, fit.half))
 
 pub returns : goal.returns
 returns c =
-    λ t e. rw (c.finished.ensures, c.put_stores.ensures, c.begun-r.ensures)
+    λ t e. rw (c.finished.ensures, c.put_all.ensures, c.begun-own.ensures)
     (write_done _ _ t _ _ _ e _ (c.in_ok-judge_write.ensures t e _ refl))

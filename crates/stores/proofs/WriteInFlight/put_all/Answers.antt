@@ -1,4 +1,4 @@
--- `stores::put_stores` meets its contract: each turn of either loop makes one more store of the write.
+-- `stores::WriteInFlight::put_all` meets its contract: each turn of either loop makes one more store of the write.
 use mathlib.Core.Path.{◌≡◌, refl, ◌∙◌}
 use mathlib.Core.List.{List}
 use Prim.Native.Nat.{ℕ, ◌+◌, ◌/◌}
@@ -12,7 +12,7 @@ use Rattle.machine.specs.calls.Writing.{plan_of, store_at, first_stores}
 use Rattle.machine.specs.declared.lane.Lane.{Lane}
 use Rattle.machine.proofs.stores.Kinds.{first_more}
 use Rattle.stores.specs.Record.{with_stores}
-use Rattle.stores.proofs.put_stores.Goals as goal
+use Rattle.stores.proofs.WriteInFlight.put_all.Goals as goal
 
 module _ (d : ℕ) (f : Figures) (l : ℕ) (r : Lane) (bytes o : List ℕ) where
   none : o ≡ with_stores d f l r bytes 0 o
@@ -30,13 +30,13 @@ module _ (d : ℕ) (f : Figures) (l : ℕ) (r : Lane) (bytes o : List ℕ) where
   whole b k m e = rw (← e) m
 
 pub loop-k-init : goal.loop-k-init
-loop-k-init c = none _ _ _ c.args.r _ _
+loop-k-init c = none _ _ _ c.args.self.own _ _
 
 pub loop-k-preserved : goal.loop-k-preserved
-loop-k-preserved c = turn _ _ _ c.args.r _ _ _ _ _ c.loop-k.invariant c.put_store.ensures
+loop-k-preserved c = turn _ _ _ c.args.self.own _ _ _ _ _ c.loop-k.invariant c.put.ensures
 
 pub loop-k-2-preserved : goal.loop-k-2-preserved
-loop-k-2-preserved c = turn _ _ _ c.args.r _ _ _ _ _ c.loop-k-2.invariant c.put_store-in-loop-k-2.ensures
+loop-k-2-preserved c = turn _ _ _ c.args.self.own _ _ _ _ _ c.loop-k-2.invariant c.put-in-loop-k-2.ensures
 
 pub returns : goal.returns
-returns c = whole _ _ _ c.args.r _ _ _ _ c.loop-k-2.invariant (omega arith)
+returns c = whole _ _ _ c.args.self.own _ _ _ _ c.loop-k-2.invariant (omega arith)
