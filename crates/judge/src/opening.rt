@@ -19,7 +19,7 @@ use infoblock::{figures_of, flags_allowed, info_allowed};
 use lanes::{ArenaView, map_word};
 use layout::{Figures, Told, distance_allowed, length_allowed};
 use machine::refusal::Refusal;
-use once::{blocks_once, clear};
+use once::blocks_once;
 
 // Rule 16, of the layout that is told, and rules 1 to 4: the figures of the info block that counts.
 fn judge_info(a: &[u8], told: Told) -> Result<Figures, Refusal>
@@ -85,7 +85,7 @@ fn judge_map(view: ArenaView, work: &mut [u8]) -> Result<(), Refusal>
         → number_of result ≡ answer number_open (tests_open told view.entry.bytes.now room) map_rules }
     ensures work_after { work.new ≡ cleared view.entry.figures.blocks work.old }
 {
-    clear(work, view.figures.blocks as usize);
+    work[..view.figures.blocks as usize].fill(0);
     if lanes_lost(&view) {
         return Err(Refusal::LostLane);
     }
@@ -115,7 +115,7 @@ pub fn judge(a: &[u8], told: Told, work: &mut [u8], records: usize) -> Result<Fi
         distance: told.distance,
     };
     if records < f.lanes as usize {
-        clear(work, f.blocks as usize);
+        work[..f.blocks as usize].fill(0);
         return Err(Refusal::ShortTable);
     }
     judge_map(view, work)?;

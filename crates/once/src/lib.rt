@@ -9,14 +9,6 @@ ghost use Rattle.once.specs.Once.{cleared, bumped, counted, counts_between, bloc
 use format::numbers::{BlockNo, LaneNo, SectorNo};
 use lanes::ArenaView;
 
-// Zeroes in the first n bytes.
-pub fn clear(w: &mut [u8], n: usize)
-    requires { n ≤ length w.old }
-    ensures { w.new ≡ cleared n w.old }
-{
-    w[..n].fill(0);
-}
-
 // Counts x once more: 0, 1, 2 and no further.
 fn bump(w: &mut [u8], x: usize)
     requires { x < length w.old }

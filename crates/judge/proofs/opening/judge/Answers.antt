@@ -1,6 +1,10 @@
 -- `judge::opening::judge` meets its contract: one law for each way in which judging ends.
-use mathlib.Core.Path.{refl, ◌∙◌}
+use mathlib.Core.Path.{refl, ap, ◌∙◌}
+use mathlib.Core.List.{List, ◌++◌}
+use Prim.Native.Nat.{ℕ}
+use lib.ListN.{drop}
 use Rattle.std.proofs.lemmas.Result.{err_from_is_err_and}
+use Rattle.once.proofs.Blocks.{zeroed}
 use Rattle.judge.proofs.Rules.{info_refuses, figures_fit, room-refuses, table-refuses, map_ends}
 use Rattle.judge.proofs.opening.judge.Goals as goal
 
@@ -31,7 +35,7 @@ returns-then-records-f-clause-answer_value c =
 pub returns-then-records-f-clause-work_after : goal.returns-then-records-f-clause-work_after
 returns-then-records-f-clause-work_after c =
     let i = c.in_ok-f.ensures in
-    c.clear.ensures
+    ap (λ (x : List ℕ). x ++ drop c.in_ok-f.f.blocks c.args.work.now) (zeroed _ _ _ c.if-work-f.false (c.fill.ensures.after (λ y e. e)))
     ∙ (table-refuses c.args.told c.args.a.now c.args.work.now c.args.records _ (i.answer_value _) i.figures_value c.if-work-f.false c.if-records-f.true).buffer
 
 pub invariant_of-view : goal.invariant_of-view

@@ -4,6 +4,8 @@ use mathlib.Core.Path.{sym, ap, ◌∙◌}
 use mathlib.Core.Bool.{not}
 use native.Mathlib.Omega.{arith}
 use Rattle.layout.specs.declared.Told.{Told}
+use lib.ListN.{length-append, length-drop}
+use Rattle.std.proofs.Common.{length-take-le}
 use Rattle.std.proofs.lemmas.Result.{err_from_is_err_and}
 use Rattle.lanes.proofs.Lanes.{map_fit}
 use Rattle.judge.proofs.Rules.{words_passed, passed_clean, lost_walk, words_walk, padding_walk, invalid_walk, valid_walk, once_or_not}
@@ -40,7 +42,7 @@ blocks_once-requires c =
         words = (words_passed t _ _ c.requires.0 w).0;
         clean = passed_clean t _ _ c.requires.0 w (sym c.lane_padded.ensures ∙ c.if-lane_padded.false);
       },
-      omega (arith, c.requires.1, c.clear.auto.w),
+      simp (length-append, length-drop) (omega (arith, c.fill.ensures.len, length-take-le _ c.args.work.now c.requires.1)),
     )
 
 pub returns-then-not-blocks_once-clause-result_value :
