@@ -39,6 +39,7 @@ fn plus_row(x: [u32; 8], y: [u32; 8]) -> [u32; 8]
 
 impl Columns {
     // The columns after a turn: what each has is added to its befores, and then it gets one word more, of the eight from word i of a on.
+    #[tactic(auto, using(crate::proofs::Rows::turn_columns))]
     fn turn(self, a: &[u8], i: usize) -> Self
         requires { 4 * (i + 8) ≤ length a.now }
         ensures { sums_of result ≡ added_all (sums_of self) (words_from a.now i 8) }

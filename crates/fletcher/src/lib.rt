@@ -28,6 +28,7 @@ impl Sums {
     }
 
     // The sums with one word more.
+    #[tactic(auto, unfolding(crate::specs::Fletcher::added))]
     pub fn add(self, word: u32) -> Self
         ensures { result ≡ added self word }
     {
@@ -37,6 +38,7 @@ impl Sums {
     }
 
     // The sums with n words more, from word i of a on, one after the other.
+    #[tactic(auto, using(crate::proofs::Laws::added_all_from), unfolding(crate::specs::Fletcher::added_all, words::specs::Word::words_from))]
     fn add_singly(self, a: &[u8], i: usize, n: usize) -> Self
         requires { 4 * (i + n) ≤ length a.now }
         ensures { result ≡ added_all self (words_from a.now i n) }
@@ -49,6 +51,7 @@ impl Sums {
     }
 
     // The sums with a run of n words more, given the sums of that run alone: high also grows by n times the low before.
+    #[tactic(auto, using(crate::proofs::Turns::often), unfolding(crate::specs::Columns::joined_run))]
     fn add_run(self, n: usize, run: Sums) -> Self
         ensures { result ≡ joined_run self n run }
     {
@@ -61,6 +64,7 @@ impl Sums {
     }
 
     // The sums with n words more, from word i of a on: turns of eight, and the rest singly.
+    #[tactic(auto, using(crate::proofs::Turns::run_and_rest))]
     pub fn add_words(self, a: &[u8], i: usize, n: usize) -> Self
         requires { 4 * (i + n) ≤ length a.now }
         ensures { result ≡ added_all self (words_from a.now i n) }
@@ -79,6 +83,7 @@ impl Sums {
 }
 
 // Fletcher64 of the n words from word i of a on.
+#[tactic(auto, unfolding(crate::specs::Fletcher::fletcher64))]
 pub fn fletcher64_of(a: &[u8], i: usize, n: usize) -> u64
     requires { 4 * (i + n) ≤ length a.now }
     ensures { result ≡ fletcher64 (words_from a.now i n) }
@@ -87,6 +92,7 @@ pub fn fletcher64_of(a: &[u8], i: usize, n: usize) -> u64
 }
 
 // The checksum of an info block: its 1,024 words, those of the checksum field counted as zero.
+#[tactic(auto, using(crate::proofs::Laws::block_checksum_is))]
 pub fn block_checksum(block: &[u8]) -> u64
     requires { 4088 ≤ length block.now }
     ensures { result ≡ block_checksum block.now }

@@ -58,6 +58,7 @@ pub fn which_counts(main: &[u8], copy: &[u8]) -> Option<Part>
 }
 
 // The block that counts, as the caller's own bytes.
+#[tactic(auto, using(crate::proofs::InfoBlock::counts_as, crate::proofs::InfoBlock::main_whole, crate::proofs::InfoBlock::copy_whole))]
 pub fn counting<'a>(main: &'a [u8], copy: &'a [u8]) -> Option<&'a [u8]>
     ensures bytes { MatchOption result (counting_of main.now copy.now ≡ []) (λ b. b.now ≡ counting_of main.now copy.now) }
     ensures whole { IfSome result (λ b. length b.now ≡ 4096) }
@@ -77,6 +78,7 @@ pub fn flags_allowed(b: &[u8]) -> bool
 }
 
 // The figures of a block.
+#[tactic(auto, unfolding(crate::specs::Info::figures_of))]
 pub fn figures_of(b: &[u8]) -> Figures
     requires { 4096 ≤ length b.now }
     ensures { result ≡ figures_of b.now }
