@@ -2,6 +2,7 @@
 ghost use Rattle.std.specs.Counts.{IsPrefixLen};
 ghost use Rattle.replay.specs.Transcript.{transcript_of, Transcribed};
 
+use machine::refusal::Refusal;
 use replaying::replay;
 use text::replay::put_replay;
 
@@ -15,17 +16,12 @@ pub fn transcript(arena: &mut [u8], log: &[u8], out: &mut [u8; 65536]) -> usize
     ensures prefix_len { IsPrefixLen result out.new }
 {
     if LIMIT < arena.len() {
-        return put_replay(out, 1, b"", false, 0);
+        return put_replay(out, Refusal::WrongLength.number(), b"", None);
     }
     let mut work = [0u8; 128];
     let mut answers = [0u8; 2048];
-    let done = replay(arena, &mut work, log, &mut answers);
-    let number = done.first;
-    put_replay(
-        out,
-        number,
-        &answers[..done.records],
-        done.stopped.is_some(),
-        done.stopped.unwrap_or(0) as u32,
-    )
+    match replay(arena, &mut work, log, &mut answers) {
+        Ok(done) => put_replay(out, 0, &answers[..done.records as usize], done.stopped),
+        Err(refusal) => put_replay(out, refusal.number(), b"", None),
+    }
 }

@@ -25,9 +25,9 @@ mod run;
 #[derive(Clone, Copy, Debug, PartialEq, Eq)]
 pub struct Replayed {
     // How many records ran.
-    pub records: usize,
+    pub records: u32,
     // The offset at which no record stands, and 0 of a log that is too long; none where the log ends where a record does.
-    pub stopped: Option<usize>,
+    pub stopped: Option<u32>,
 }
 
 // Puts what a record answers into the lent buffer, as its number; past its end, nowhere.
@@ -54,16 +54,16 @@ fn run_records(
 {
     let mut handle = opened;
     let mut reader = LogReader::new(log, 0);
-    let mut records: usize = 0;
+    let mut records: u32 = 0;
     while let Some(taken) = reader.next() {
-        let answer = run_record(arena, work, table, &mut handle, taken.found, records as u32);
-        put_answer(answers, records, answer);
+        let answer = run_record(arena, work, table, &mut handle, taken.found, records);
+        put_answer(answers, records as usize, answer);
         records += 1;
         reader = reader.past(taken.after);
     }
     Replayed {
         records,
-        stopped: (reader.at < log.len()).then_some(reader.at),
+        stopped: (reader.at < log.len()).then_some(reader.at as u32),
     }
 }
 
