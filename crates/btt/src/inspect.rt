@@ -21,7 +21,7 @@ pub struct Span {
     pub length: u64,
 }
 
-// The place of the info block that counts; 0 and 0 where none does.
+// The place of the info block that counts; 0 and 0, which C gets, where none does.
 pub fn info_span(arena: &[u8]) -> Span
     ensures { result ≡ btt_info_block_of arena.now }
 {

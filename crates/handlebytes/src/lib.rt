@@ -1,4 +1,4 @@
-// The 64 bytes of a handle, and the 28 of a lane's record, as a host holds them.
+// The 64 bytes of a handle, and the 28 of a lane's record, as a host holds them. C fixes the place of each field, so each is stored by itself.
 #![tactic(auto)]
 
 ghost use Rattle.std.specs.Prelude.{◌≡◌, ◌≤◌, length};

@@ -104,7 +104,7 @@ pub fn info_allowed(b: &[u8], told: Told, total: usize) -> bool
     header_allowed(b, told.next) && figures_allowed(figures_of(b), total)
 }
 
-// The low and the high word of a 64-bit number.
+// The low and the high word of a 64-bit number: a remainder and a quotient, with no form in common that is plainer.
 fn low_word(n: u64) -> u32
     ensures { result ≡ n % 4294967296 }
 {

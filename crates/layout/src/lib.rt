@@ -168,7 +168,7 @@ pub fn figures_allowed(f: Figures, length: usize) -> bool
         && parts_in_order(f, length)
 }
 
-// The least multiple of 4,096 that is n or more.
+// The least multiple of 4,096 that is n or more; std has no method for it.
 fn round_up(n: u64) -> u64
     requires { n < 1125899906842624 }
     ensures { result ≡ round_up n }

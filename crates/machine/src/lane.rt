@@ -1,4 +1,5 @@
-// A lane's record: its free block, its next half and sequence, and the write in flight, if any. A host may put any numbers into one.
+// A lane's record: its free block, its next half and sequence, and the write in flight, if any. A host may put any numbers into one, so that
+// C sees numbers where an enum or an Option would stand.
 ghost use Rattle.std.specs.Prelude.{◌≡◌, ◌+◌, ◌≤◌, ◌<◌};
 ghost use Rattle.layout.specs.Sizes.{max_stores};
 ghost use Rattle.machine.specs.state.Lane.{no_lane, idle_lane, is_busy, started_lane, stored_lane, finished_lane};
