@@ -20,7 +20,7 @@ pub fn fill<R: Read>(stream: &mut R, room: &mut [u8]) -> usize
     ensures prefix_len { IsPrefixLen result room.new }
     ensures bytes { Consumes (R.remaining stream.old) (R.remaining stream.new) (take result room.new) }
 {
-    let mut done = 0;
+    let mut done = 0; // The stream says how far each turn goes.
     while done < room.len() {
         let n = read_once(stream, &mut room[done..]);
         if n == 0 {

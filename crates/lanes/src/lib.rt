@@ -15,7 +15,7 @@ use layout::{Figures, flog_place, is_padding, lane_place, map_place};
 use machine::lane::Lane;
 use words::word_at;
 
-// A sector's map word.
+// A sector's map word, and below its block: of bytes whose map alone fits, which is less than a view asks.
 pub fn map_word(a: &[u8], f: Figures, s: SectorNo) -> u32
     requires { MapFit f (length a.now) × (s.0 < f.sectors) }
     ensures { (d : ℕ) → result ≡ map_word (layout_of d f) a.now s.0 }

@@ -36,7 +36,8 @@ fn mend_lane(a: &mut [u8], f: Figures, d: u32, l: LaneNo, left: bool) -> bool
     true
 }
 
-// Makes the first k mending stores, in rising order of the lanes, and counts the pending lanes.
+// Makes the first k mending stores, in rising order of the lanes, and counts the pending lanes. The bytes are lent to be changed, so that a
+// view of them lasts for one lane's reading.
 pub fn mend(a: &mut [u8], f: Figures, d: u32, k: u32) -> u32
     requires { Mendable d f a.old }
     ensures value { result ≡ pending_lanes (layout_of d f) a.old f.lanes }
