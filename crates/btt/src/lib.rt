@@ -213,8 +213,8 @@ pub extern "C" fn btt_replay(
 {
     match replay(arena, work, log, answers) {
         Ok(replayed) => {
-            *records = replayed.records as u64;
-            *stopped = replayed.stopped.unwrap_or(0) as u64;
+            *records = u64::from(replayed.records);
+            *stopped = u64::from(replayed.stopped.unwrap_or(0));
             if replayed.stopped.is_some() {
                 Refusal::BadRecord.number()
             } else {

@@ -4,11 +4,11 @@ use Rattle.btt.proofs.btt_replay.Goals as goal
 
 pub returns-then-is_some : goal.returns-then-is_some
 returns-then-is_some c =
-    rw c.unwrap_or.ensures (replay_done _ _ _ _ _ _ _ _ c.in-Ok.ensures _ (rw (c.number.ensures, ← c.is_some.ensures, c.if-is_some.true)))
+    rw (c.from.ensures, c.from-in-Ok.ensures, c.unwrap_or.ensures) (replay_done _ _ _ _ _ _ _ _ c.in-Ok.ensures _ (rw (c.number.ensures, ← c.is_some.ensures, c.if-is_some.true)))
 
 pub returns-else-is_some : goal.returns-else-is_some
 returns-else-is_some c =
-    rw c.unwrap_or.ensures (replay_done _ _ _ _ _ _ _ _ c.in-Ok.ensures _ (rw (← c.is_some.ensures, c.if-is_some.false)))
+    rw (c.from.ensures, c.from-in-Ok.ensures, c.unwrap_or.ensures) (replay_done _ _ _ _ _ _ _ _ c.in-Ok.ensures _ (rw (← c.is_some.ensures, c.if-is_some.false)))
 
 pub returns-in-Err : goal.returns-in-Err
 returns-in-Err c = replay_refused _ _ _ _ _ _ _ _ c.in-Err.ensures _ c.number-in-Err.ensures
