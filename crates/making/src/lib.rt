@@ -17,6 +17,7 @@ use machine::refusal::Refusal;
 use words::{put_word, zero_words};
 
 // Stores a fresh lane's 16 words from word i on.
+#[tactic(auto, using(crate::proofs::Laws::put_four))]
 fn put_lane(a: &mut [u8], i: usize, sectors: u32, l: u32)
     requires { (4 * (i + 16) ≤ length a.old) × (sectors + l < 4294967296) }
     ensures { a.new ≡ put_words a.old i (fresh_lane sectors l) }
@@ -29,6 +30,7 @@ fn put_lane(a: &mut [u8], i: usize, sectors: u32, l: u32)
 }
 
 // Stores a fresh flog of n lanes from word i on.
+#[tactic(auto, using(crate::proofs::Laws::put_flog_more), unfolding(machine::specs::calls::Making::fresh_flog, words::specs::Word::put_words))]
 fn put_flog(a: &mut [u8], i: usize, sectors: u32, n: u32)
     requires { (4 * (i + 16 * n) ≤ length a.old) × (sectors + n < 4294967296) }
     ensures { a.new ≡ put_words a.old i (fresh_flog sectors 0 n) }

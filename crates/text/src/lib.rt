@@ -17,6 +17,7 @@ pub mod claims;
 pub mod replay;
 
 // A piece of text.
+#[tactic(auto, using(crate::proofs::Laws::put_copied))]
 fn put_text(out: &mut [u8], at: usize, text: &[u8]) -> usize
     requires { at + length text.now ≤ length out.old }
     ensures { Put out.old out.new at result text.now }
