@@ -119,7 +119,7 @@ impl<'a> ArenaView<'a> {
         ensures { result ≡ pending (layout self.now) self.now.bytes.now l.0 }
     {
         let h = self.newer_flog(l);
-        self.map_block(h.sector).0 == h.old.0
+        self.map_block(h.sector) == h.old
     }
 
     // A lane's free block.

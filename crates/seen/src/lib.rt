@@ -15,7 +15,7 @@ use machine::refusal::Refusal;
 
 // What a call sees: the table's length, whether the lanes' records are in range, whether one has the sector in flight, and the lane's own.
 // The two flags answer two rules, each asked by itself, so that an Option of the second would be taken apart twice. Handle, lane and sector
-// stay a call's own parameters: as parts of this each caller would owe that they are those that it named.
+// stay a call's own parameters, with `Saw` in its clauses: that fact holds a table and is no proposition, so that no ghost field can have it.
 #[derive(Clone, Copy, Debug, PartialEq, Eq)]
 pub struct Seen {
     pub length: usize,

@@ -1,4 +1,5 @@
 -- `lanes::ArenaView::is_pending` meets its contract: the half's sector is in range, so its map word can be asked.
+use mathlib.Core.Path.{◌∙◌}
 use Rattle.layout.specs.Place.{layout_of}
 use Rattle.machine.specs.state.Flog.{pending}
 use Rattle.lanes.proofs.Lanes.{sector_is, old_is, reads}
@@ -16,4 +17,4 @@ pub returns : goal.returns
 unfolding pending
 returns c =
     let h = c.newer_flog-h.ensures in
-    rw (c.map_block.ensures, sector_is _ _ _ _ _ h, old_is _ _ _ _ _ h)
+    c.eq.ensures ∙ rw (c.map_block.ensures, sector_is _ _ _ _ _ h, old_is _ _ _ _ _ h)
