@@ -13,7 +13,7 @@ ghost use Rattle.once.specs.Once.{cleared};
 ghost use Rattle.judge.specs.Judge.{extent, work_left, words_number};
 
 use super::info::info_block;
-use format::map::{WordFault, judge_word};
+use format::map::{MapState, judge_word};
 use format::numbers::{LaneNo, SectorNo};
 use infoblock::{figures_of, flags_allowed, info_allowed};
 use lanes::{ArenaView, map_word};
@@ -59,10 +59,10 @@ fn judge_words(a: &[u8], f: Figures) -> Result<(), Refusal>
 {
     let mut sloppy = false;
     for s in 0..f.sectors {
-        match judge_word(f.blocks, map_word(a, f, SectorNo(s))) {
-            Ok(()) => {}
-            Err(WordFault::PastLast) => return Err(Refusal::BadMapWord),
-            Err(WordFault::Sloppy) => sloppy = true,
+        let word = map_word(a, f, SectorNo(s));
+        match MapState::of_word(word) {
+            MapState::Unwritten => sloppy |= word != 0,
+            _ => judge_word(f.blocks, word)?,
         }
     }
     if sloppy {

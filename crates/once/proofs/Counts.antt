@@ -9,10 +9,8 @@ use lib.Dec.{eqb, leb}
 use lib.ListN.{length, get_or, replicate, length-set, length-replicate, get_or-replicate}
 use lib.Seq.{get_or-set_same, get_or-set_other}
 use borrow.Author.Tests.{eqb-true, eqb-false, ne_eqb, lt-leb}
-use Rattle.std.specs.Bool.{MatchBool}
-use Rattle.std.specs.List.{AllWithin, HoldsAt}
 use Rattle.format.specs.Tests.{every}
-use Rattle.format.proofs.Tests.{every_intro, every_fails, every_same}
+use Rattle.format.proofs.Tests.{every_zero, every_step, every_same}
 use Rattle.machine.specs.calls.Opening.{count}
 use Rattle.once.specs.Once.{bumped, counted, counts_between, Under}
 
@@ -113,14 +111,15 @@ module _ (m : ℕ) where
       (get_d_counted (counted (replicate m 0) n f) k g b (count n f b) (rw length-counted (inside k g j)) (get_d_once n f h b p))
       ∙ capped_one (count n f b + count k g b))
 
--- what a search over the bytes tells
+-- a turn of the loop that tests the bytes
 module _ (w : List ℕ) (low high : ℕ) where
-  abbrev pub within : ℕ → Bool
+  abbrev within : ℕ → Bool
   within x = leb low x && leb x high
 
-  pub tells : (r : Bool)
-      → MatchBool r (AllWithin (λ x. within x ≡ true) w 0 (length w)) ((k : ℕ) × (k < length w) × HoldsAt (λ x. within x ≡ false) w k)
-      → r ≡ counts_between w (length w) low high
+  pub between_none : true ≡ counts_between w 0 low high
   unfolding counts_between
-  tells true h = sym (every_intro (length w) _ (λ k p. h k 0 (omega arith) p))
-  tells false h = sym (every_fails (length w) _ h.0 h.1 (h.2 0))
+  between_none = sym (every_zero _)
+
+  pub between_more : (i : ℕ) (t : Bool) → t ≡ within (get_or w i 0) → counts_between w i low high && t ≡ counts_between w (i + 1) low high
+  unfolding counts_between
+  between_more i t e = rw (add-one, every_step, e)

@@ -28,11 +28,15 @@ fn count_each<F: Fn(u32) -> BlockNo>(w: &mut [u8], n: u32, block: F)
     }
 }
 
-// Whether all counts are from low to high.
+// Whether all counts are from low to high. None ends the loop, so that many are tested at a time.
 fn counts_between(counts: &[u8], low: u8, high: u8) -> bool
     ensures { result ≡ counts_between counts.now (length counts.now) low high }
 {
-    counts.iter().all(|m| (low..=high).contains(m))
+    let mut all = true;
+    for m in counts {
+        all &= (low <= *m) & (*m <= high);
+    }
+    all
 }
 
 // Whether every block is claimed once. The first blocks bytes of the work buffer are 0 afterwards.

@@ -32,14 +32,20 @@ module _ (a log arena work answers : List ℕ) (d : Replayed)
   records = ap (λ (x : Given). x.records) o
 
   pub few : d.records ≤ 2048
-  few = rw records (replay_within a work_buffer log)
+  few = rw records (replay_within a work_buffer log).0
+
+  pub early : unwrap_or d.stopped 0 ≤ 8192
+  early = rw (ap (λ (x : Given). x.at) o) (replay_within a work_buffer log).1
 
   -- the answers that were put are those of the records
   numbers : take d.records answers ≡ given.numbers
   numbers =
       let all : take (length (replicate {A = ℕ} 2048 0)) given.numbers ≡ given.numbers
-      = rw length-replicate (take_all 2048 given.numbers (replay_within a work_buffer log)) in
+      = rw length-replicate (take_all 2048 given.numbers (replay_within a work_buffer log).0) in
       rw (ap (λ (x : Given). x.answers) o, records, all) (take-append_seam given.numbers _)
+
+  pub few_answers : length (take d.records answers) ≤ 2048
+  few_answers = rw numbers (replay_within a work_buffer log).0
 
   pub transcribed : length a ≤ max_arena → (before after : List ℕ) (r : ℕ)
       → let text = replay_text 0 (take d.records answers) (is_some d.stopped) (unwrap_or d.stopped 0) in

@@ -146,16 +146,16 @@ within (suc n) log at h =
     let rest = within n log (at + length_of r) in_log.0 in
     rw (t, e) (omega (arith, in_log.1, rest.0), rest.1)))
 
-few : (log : List ℕ) (l : Log) → Within log 0 l → length log ≤ 8192 → length l.records ≤ 2048
-few log l w h = omega (arith, w.0, w.1)
+few : (log : List ℕ) (l : Log) → Within log 0 l → length log ≤ 8192 → (length l.records ≤ 2048) × (l.at ≤ 8192)
+few log l w h = (omega (arith, w.0, w.1), omega (arith, w.1))
 
--- how many records run
-log_few : (log : List ℕ) → length (log_of log).records ≤ 2048
+-- how many records run, and where they end
+pub log_within : (log : List ℕ) → (length (log_of log).records ≤ 2048) × ((log_of log).at ≤ 8192)
 unfolding log_of
-log_few log =
+log_within log =
     by_bool (leb (length log) max_log) _
     (λ t. rw t (few log (log_from log 0) (within (suc (length log - 0)) log 0 (omega arith)) (leb-true (length log) max_log t)))
-    (λ t. rw t (omega arith))
+    (λ t. rw t (omega arith, omega arith))
 
 -- two bytes are too few for a record
 two_begin_none : BeginsNone (6 ∷ 0 ∷ [])
@@ -176,7 +176,7 @@ log_claim = record {
   damaged = log_damaged;
   every = log_every;
   longer = log_longer;
-  few = log_few;
+  few = λ log. (log_within log).0;
   example = refl;
   begins_none = two_begin_none;
 }

@@ -48,14 +48,16 @@ pub fn look(table: &[Lane], h: Handle, lane: LaneNo, sector: SectorNo) -> Seen
     let end = judged(h, n);
     let own = lane_at(table, lane.0 as usize);
     let mut flying = false;
+    let mut done = 0;
     for i in 0..end {
         let r = table[i];
         if out_of_range(h, r) {
-            return seen_of(n, end, i, flying, own);
+            break;
         }
         flying = also_flies(flying, r, sector);
+        done += 1;
     }
-    seen_of(n, end, end, flying, own)
+    seen_of(n, end, done, flying, own)
 }
 
 // Fills the lanes' records of an opened arena, each read off the flog; those past the lanes are left alone.

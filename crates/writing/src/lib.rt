@@ -119,7 +119,8 @@ fn judge_step(
     Ok(())
 }
 
-// Makes the next store of a lane's write: the lane's record after it.
+// Makes the next store of a lane's write: the lane's record after it. It is placed in each of its two callers, so that what is seen stays in registers.
+#[inline(always)]
 pub fn step_seen(
     arena: &mut [u8],
     h: Handle,

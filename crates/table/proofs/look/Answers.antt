@@ -8,13 +8,14 @@ use Rattle.format.proofs.Tests.{true_false}
 use Rattle.machine.specs.calls.Judging.{in_flight}
 use Rattle.seen.proofs.Laws.{none-sound, none-flies, sound_more, flies_more, sound_end, sound_broken, seen_is}
 use Rattle.table.proofs.look.Goals as goal
+use Rattle.table.proofs.look.Goals.{else-loop-i-test, then-loop-i-test+then-out_of_range}
 
 pub loop-i-init : goal.loop-i-init
 loop-i-init c =
     let h = c.args.h in
     let t = c.args.table.now in
     let s = c.args.sector.0 in
-    record { sound = none-sound h t s; flies = sym (none-flies h t s) }
+    record { sound = none-sound h t s; counted = refl; flies = sym (none-flies h t s) }
 
 pub loop-i-preserved : goal.loop-i-preserved
 loop-i-preserved c =
@@ -24,21 +25,9 @@ loop-i-preserved c =
     let inv = c.loop-i.invariant in
     record {
       sound = sound_more h t s c.loop-i.i c.out_of_range.result inv.sound c.out_of_range.ensures c.if-out_of_range.false;
+      counted = omega arith;
       flies = c.also_flies-flying.ensures ∙ flies_more h t s c.loop-i.i c.loop-i.flying inv.flies;
     }
-
-pub returns-then-out_of_range : goal.returns-then-out_of_range
-returns-then-out_of_range c =
-    let h = c.args.h in
-    let t = c.args.table.now in
-    let s = c.args.sector.0 in
-    let i = c.loop-i.i in
-    let n = c.judged-end.result in
-    let l = c.loop-i-test.true in
-    c.seen_of.ensures
-    ∙ seen_is h t c.args.lane.0 s n i _ c.loop-i.flying c.lane_at-own.result c.judged-end.ensures.0
-    (sound_broken h t s i n c.out_of_range.result l c.out_of_range.ensures c.if-out_of_range.true)
-    (λ y. true_false (sym y ∙ ne_eqb i n (λ e. omega (arith, e, l)))) refl c.lane_at-own.ensures
 
 pub returns : goal.returns
 returns c =
@@ -47,9 +36,18 @@ returns c =
     let s = c.args.sector.0 in
     let i = c.loop-i.i in
     let n = c.judged-end.result in
+    let b = c.loop-i.flying in
     let inv = c.loop-i.invariant in
-    let e = le_antisymm c.loop-i.auto.i-end c.loop-i-test.false in
-    c.seen_of-2.ensures
-    ∙ seen_is h t c.args.lane.0 s n n _ c.loop-i.flying c.lane_at-own.result c.judged-end.ensures.0
-    (sound_end h t s n n (rw e at inv.sound) (omega arith) (omega arith))
-    (λ y. inv.flies ∙ ap (λ (m : ℕ). in_flight t m s) e) refl c.lane_at-own.ensures
+    c.seen_of.ensures
+    ∙ (elim c.loop-i-test.branch [
+      | else-loop-i-test w ↦
+          let e = le_antisymm c.loop-i.auto.i-end w.loop-i-test.false in
+          rw (inv.counted, e) (seen_is h t c.args.lane.0 s n n _ b c.lane_at-own.result c.judged-end.ensures.0
+          (sound_end h t s n n (rw e at inv.sound) (omega arith) (omega arith))
+          (λ y. inv.flies ∙ ap (λ (m : ℕ). in_flight t m s) e) refl c.lane_at-own.ensures)
+      | then-loop-i-test+then-out_of_range w ↦
+          let l = w.loop-i-test.true in
+          rw inv.counted (seen_is h t c.args.lane.0 s n i _ b c.lane_at-own.result c.judged-end.ensures.0
+          (sound_broken h t s i n w.out_of_range.result l w.out_of_range.ensures w.if-out_of_range.true)
+          (λ y. true_false (sym y ∙ ne_eqb i n (λ e. omega (arith, e, l)))) refl c.lane_at-own.ensures)
+    ])
