@@ -40,22 +40,24 @@ pub fn keep(table: &mut [Lane], lane: LaneNo, given: Result<Lane, Refusal>) -> R
     Ok(())
 }
 
-// What a call sees of the table: it is judged record by record, up to the first that is out of range.
+// What a call sees of the table: it is judged record by record, up to the first that is out of range; then those before it are asked for the
+// sector. Each has a loop of its own: in one, the compiler makes a jump of every test, which is slow at some places in memory.
 pub fn look(table: &[Lane], h: Handle, lane: LaneNo, sector: SectorNo) -> Seen
     ensures { result ≡ seen_of h table.now lane.0 sector.0 }
 {
     let n = table.len();
     let end = judged(h, n);
     let own = lane_at(table, lane.0 as usize);
-    let mut flying = false;
     let mut done = 0;
     for i in 0..end {
-        let r = table[i];
-        if out_of_range(h, r) {
+        if out_of_range(h, table[i]) {
             break;
         }
-        flying = also_flies(flying, r, sector);
         done += 1;
+    }
+    let mut flying = false;
+    for k in 0..done {
+        flying = also_flies(flying, table[k], sector);
     }
     seen_of(n, end, done, flying, own)
 }

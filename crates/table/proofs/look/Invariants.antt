@@ -1,4 +1,4 @@
--- `table::look` meets its contract. The loop's invariant: the first i records are in range and counted, and flying says whether one of them has the sector in flight.
+-- `table::look` meets its contract. The loops' invariants: the first i records are in range and counted, and flying says whether one of the first k has the sector in flight.
 use mathlib.Core.Path.{◌≡◌}
 use mathlib.Core.Bool.{true}
 use Rattle.machine.specs.calls.Judging.{in_flight}
@@ -9,5 +9,7 @@ abbrev pub invariant-loop-i : goal.invariant-loop-i
 invariant-loop-i l = record {
   sound : sound_to l.h l.table l.i ≡ true;
   counted : l.done ≡ l.i;
-  flies : l.flying ≡ in_flight l.table l.i l.sector.0;
 }
+
+abbrev pub invariant-loop-k : goal.invariant-loop-k
+invariant-loop-k l = record { flies : l.flying ≡ in_flight l.table l.k l.sector.0 }
